@@ -1,0 +1,4 @@
+-- What is proved of the rules. Theorems: the demands. Document003: the paper's own lemmas. The others stand below these.
+pub mod Verdicts
+pub mod Tables
+pub mod Levels
