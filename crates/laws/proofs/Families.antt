@@ -6,11 +6,11 @@ use mathlib.Core.List.{List, [], _∷_, _++_, append-nil}
 use Prim.Native.Nat.{ℕ, zero, suc, _+_, _≤_, _<_}
 use native.Mathlib.Decide.{ℕ-discrete}
 use native.Mathlib.Omega.{arith}
-use borrow.Author.Tests.{eq-eqb, ne-eqb, eqb-true, eqb-false}
-use lib.Dec.{eqb}
-use Rattle.laws.specs.Words.{pick, those, In, Sorted, put, grouped, joined}
+use borrow.Author.Tests.{eq-eqb, ne-eqb, eqb-true, eqb-false, ltb-true}
+use lib.Dec.{eqb, ltb}
+use Rattle.laws.specs.Words.{pick, those, In, Sorted, inserted, put, grouped, joined}
 use Rattle.laws.proofs.Counts.{those-none, those-all, those-same, those-append}
-use Rattle.laws.proofs.Orders.{in-append, sorted-append}
+use Rattle.laws.proofs.Orders.{in-append, sorted-append, those-inserted-out}
 
 -- ---- one place changed
 
@@ -51,6 +51,32 @@ module _ {X : Type 0} (f : X → ℕ) where
 
 pub grouped-same : {X : Type 0} (f g : X → ℕ) (q : List X) (l : ℕ) → ((x : X) → In x q → f x ≡ g x) → grouped f q l ≡ grouped g q l
 grouped-same f g q l h = those-same (λ x. eqb (f x) l) (λ x. eqb (g x) l) q (λ x m. ap (λ (n : ℕ). eqb n l) (h x m))
+
+-- x put by its key into a list whose keys never fall: at the end of its group, and the other groups stay
+module _ {X : Type 0} (key : X → ℕ) (x : X) where
+  pub grouped-inserted : (q : List X) → Sorted (λ a b. key a ≤ key b) q
+      → grouped key (inserted (λ a b. ltb (key a) (key b)) x q) (key x) ≡ grouped key q (key x) ++ x ∷ []
+  unfolding inserted those
+  grouped-inserted [] r = grouped-here key x [] (key x) refl
+  grouped-inserted (a ∷ q) r = go (ltb (key x) (key a)) refl (grouped-inserted q (r .1))
+    where
+      above : key x < key a → (y : X) → In y (a ∷ q) → key y ≡ key x → ⊥
+      above l y (inl e) f = let g : key y ≡ key a = ap key e in omega arith
+      above l y (inr m) f = let g : key a ≤ key y = r .0 y m in omega arith
+
+      at : (b : Bool) → pick b (a ∷ (grouped key q (key x) ++ x ∷ [])) (grouped key q (key x) ++ x ∷ []) ≡ pick b (a ∷ grouped key q (key x)) (grouped key q (key x)) ++ x ∷ []
+      at true = refl
+      at false = refl
+
+      go : (b : Bool) → ltb (key x) (key a) ≡ b → grouped key (inserted (λ a b. ltb (key a) (key b)) x q) (key x) ≡ grouped key q (key x) ++ x ∷ []
+          → grouped key (pick b (x ∷ a ∷ q) (a ∷ inserted (λ a b. ltb (key a) (key b)) x q)) (key x) ≡ grouped key (a ∷ q) (key x) ++ x ∷ []
+      go true t h =
+          let none : grouped key (a ∷ q) (key x) ≡ [] = grouped-none key (a ∷ q) (key x) (above (ltb-true _ _ t)) in
+          grouped-here key x (a ∷ q) (key x) refl ∙ ap (λ (w : List X). x ∷ w) none ∙ ap (λ (w : List X). w ++ x ∷ []) (sym none)
+      go false t h = rw h (at (eqb (key a) (key x)))
+
+  pub grouped-inserted-other : (q : List X) (l : ℕ) → (l ≡ key x → ⊥) → grouped key (inserted (λ a b. ltb (key a) (key b)) x q) l ≡ grouped key q l
+  grouped-inserted-other q l d = those-inserted-out (λ a b. ltb (key a) (key b)) (λ y. eqb (key y) l) x q (ne-eqb (key x) l (λ e. d (sym e)))
 
 -- ---- joined
 

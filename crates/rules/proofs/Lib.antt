@@ -2,3 +2,8 @@
 pub mod Verdicts
 pub mod Tables
 pub mod Levels
+pub mod Ready
+pub mod Ranges
+pub mod Queues
+pub mod Steps
+pub mod Bound
