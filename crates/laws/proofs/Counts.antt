@@ -5,7 +5,7 @@ use mathlib.Core.Logic.{_⊎_, inl, inr, ⊎-elim}
 use mathlib.Core.List.{List, [], _∷_, _++_, map}
 use Prim.Native.Nat.{ℕ, zero, suc, _+_, _≤_, _<_}
 use native.Mathlib.Omega.{arith}
-use borrow.Author.Tests.{eq-eqb}
+use borrow.Author.Tests.{eq-eqb, eqb-true}
 use lib.Dec.{eqb}
 use lib.ListN.{length}
 use Rattle.laws.specs.Words.{pick, digit, count, those, sum, In}
@@ -128,3 +128,12 @@ unfolding count
 in-count k [] m = absurd m
 in-count k (x ∷ xs) (inl e) = omega (arith, ap digit (eq-eqb k x e))
 in-count k (x ∷ xs) (inr m) = omega (arith, in-count k xs m)
+
+pub count-in : (k : ℕ) (xs : List ℕ) → 1 ≤ count (eqb k) xs → In k xs
+unfolding count
+count-in k [] h = let z : ⊥ = omega arith in absurd z
+count-in k (x ∷ xs) h = go (eqb k x) refl h (count-in k xs)
+  where
+    go : (b : Bool) → eqb k x ≡ b → 1 ≤ digit b + count (eqb k) xs → (1 ≤ count (eqb k) xs → In k xs) → In k (x ∷ xs)
+    go true e l f = inl (eqb-true k x e)
+    go false e l f = inr (f (omega arith))

@@ -7,3 +7,7 @@ pub mod Ranges
 pub mod Queues
 pub mod Steps
 pub mod Bound
+pub mod Jobs
+pub mod Agreement
+pub mod Called
+pub mod Theorems

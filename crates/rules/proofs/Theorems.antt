@@ -1,0 +1,73 @@
+-- THE THREE DEMANDS, of every table that passes its tests, every start reading and every list of calls. Assumes nothing.
+use mathlib.Core.Path.{_≡_, refl, sym, ap, _∙_, subst}
+use mathlib.Core.List.{List, []}
+use Prim.Native.Nat.{ℕ}
+use native.Mathlib.Omega.{arith}
+use Rattle.laws.specs.Words.{sum}
+use Rattle.rules.specs.Numbers.{Refusal, Passed}
+use Rattle.rules.specs.Table.{Task, verdictOf}
+use Rattle.rules.specs.State.{Running, State}
+use Rattle.rules.specs.Calls.{Call, Answer, Accepted, Refused, Margin, startOf, movesOf, testsOf, stepOf}
+use Rattle.rules.specs.Histories.{seenAtStart, called, fallsOf}
+use Rattle.rules.specs.Demands.{Exactly, verdictIn, Demand1, Demand2, Demand3, Demands, stateAfter, seen, answerTo}
+use Rattle.rules.proofs.Verdicts.{exactly}
+use Rattle.rules.proofs.Steps.{step-cases, timeOfCall}
+use Rattle.rules.proofs.Bound.{bounded-from}
+use Rattle.rules.proofs.Agreement.{Agree, start-queue, start-agrees, run-table, run-agrees}
+use Rattle.rules.proofs.Called.{agree-demand2, agree-moves, agree-called}
+
+-- ---- demand 1, of any call on any state
+
+accepted-refused : {X : Type 0} {a : Answer} {r : Running} {m : ℕ} {g : Margin} {x : Refusal} → a ≡ Accepted r m g → a ≡ Refused x → X
+accepted-refused p q = let z : _≡_ {A = ℕ} 0 1 = cc in let n : ⊥ = omega arith in absurd n
+
+pub demand-1 : (s : State) (c : Call) → Demand1 s c
+demand-1 s c =
+    record {
+      exactly =
+          step-cases (λ x. Exactly (testsOf s c) (verdictIn (x .answer))) s c (λ r e. subst (Exactly (testsOf s c)) e (exactly (testsOf s c)))
+          (λ e. subst (Exactly (testsOf s c)) e (exactly (testsOf s c)));
+      unchanged = λ r. step-cases (λ x. x .answer ≡ Refused r → x .state ≡ s) s c (λ q e h. refl) (λ e h. accepted-refused refl h);
+    }
+
+accepted-moves : {r r′ : Running} {m m′ : ℕ} {g g′ : Margin} → Accepted r m g ≡ Accepted r′ m′ g′ → m ≡ m′
+accepted-moves e = cc
+
+-- ---- all of a history
+
+module _ (table : List Task) (reading : ℕ) (sound : verdictOf table ≡ Passed) where
+  pub agree-always : (cs : List Call) → Agree (stateAfter table reading cs) (seen table reading cs)
+  agree-always cs = run-agrees cs (startOf table reading) (seenAtStart reading) (start-agrees table reading sound)
+
+  pub demand-2 : (cs : List Call) → Demand2 table (stateAfter table reading cs) (seen table reading cs)
+  demand-2 cs =
+      subst (λ (t : List Task). Demand2 t (stateAfter table reading cs) (seen table reading cs)) (run-table cs (startOf table reading))
+      (agree-demand2 (stateAfter table reading cs) (seen table reading cs) (agree-always cs))
+
+  pub demand-3 : (cs : List Call) → Demand3 table reading cs
+  unfolding sum
+  demand-3 cs =
+      record {
+        moves =
+            λ c r m g. step-cases (λ x. x .answer ≡ Accepted r m g → m ≡ fallsOf table (seen table reading cs) c) (stateAfter table reading cs) c
+            (λ q e h. accepted-refused h refl) (λ e h. sym (accepted-moves h) ∙ due c);
+        bound = omega (arith, bounded-from cs (startOf table reading) [] (start-queue table reading sound));
+      }
+    where
+      due : (c : Call) → movesOf (stateAfter table reading cs) (timeOfCall (stateAfter table reading cs) c) ≡ fallsOf table (seen table reading cs) c
+      due c =
+          agree-moves (stateAfter table reading cs) (seen table reading cs) (agree-always cs) c
+          ∙ ap (λ (t : List Task). fallsOf t (seen table reading cs) c) (run-table cs (startOf table reading))
+
+  -- THE DEMANDS
+  pub demands : (cs : List Call) → Demands table reading cs
+  demands cs = record { demand-1 = demand-1 (stateAfter table reading cs); demand-2 = demand-2 cs; demand-3 = demand-3 cs }
+
+  -- all of the state, and so every answer, is what the calls and answers before call for
+  pub state-called : (cs : List Call) → stateAfter table reading cs ≡ called table (seen table reading cs)
+  state-called cs =
+      subst (λ (t : List Task). stateAfter table reading cs ≡ called t (seen table reading cs)) (run-table cs (startOf table reading))
+      (agree-called (stateAfter table reading cs) (seen table reading cs) (agree-always cs))
+
+  pub answer-called : (cs : List Call) (c : Call) → answerTo table reading cs c ≡ stepOf (called table (seen table reading cs)) c .answer
+  answer-called cs c = ap (λ (s : State). stepOf s c .answer) (state-called cs)
