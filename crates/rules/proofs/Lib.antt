@@ -11,3 +11,5 @@ pub mod Jobs
 pub mod Agreement
 pub mod Called
 pub mod Theorems
+pub mod Wholes
+pub mod Refinement

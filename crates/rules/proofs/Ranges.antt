@@ -1,16 +1,29 @@
--- Levels of those that wait. Assumes nothing.
+-- What the lists of a whole state have: numbers that are levels, and an order that is one of levels too. Assumes nothing.
+use mathlib.Core.Path.{_≡_}
 use mathlib.Core.List.{List}
 use Prim.Native.Nat.{ℕ, _≤_}
 use native.Mathlib.Omega.{arith}
-use Rattle.laws.specs.Words.{Sorted}
+use Rattle.laws.specs.Words.{In, Sorted}
 use Rattle.laws.proofs.Orders.{sorted-mono}
-use Rattle.rules.specs.Table.{Task}
-use Rattle.rules.specs.State.{Last, deadlineOf, levelsOf, MayLead}
-use Rattle.rules.proofs.Levels.{level-mono}
+use Rattle.rules.specs.Table.{Task, most}
+use Rattle.rules.specs.State.{Last, State, deadlineOf, levelsOf, deadlineIn, levelIn, MayLead, Whole}
+use Rattle.rules.proofs.Tables.{right-size}
+use Rattle.rules.proofs.Levels.{level-mono, level-low, level-high}
 
--- in order of deadline is in order of level, at any time
+-- a list where somebody waits is that of a level
+pub list-range : (s : State) → Whole s → (l k : ℕ) → In k (s .ready .lists l) → (1 ≤ l) × (l ≤ most)
+list-range s w l k m =
+    omega (
+      arith,
+      w .place l k m,
+      level-low (s .table) (deadlineIn s k) (s .clock),
+      level-high (s .table) k (w .waiter l k m .task) (deadlineIn s k) (s .clock) (omega (arith, w .past k)),
+      right-size (s .table) (w .table),
+    )
+
+-- a list in order of deadlines is in order of levels at any time
 pub rising-levels : (table : List Task) (released : ℕ → Last) (time : ℕ) (q : List ℕ) → Sorted (MayLead table released) q
     → Sorted (λ a b. levelsOf table released time a ≤ levelsOf table released time b) q
 rising-levels table released time q =
     sorted-mono (MayLead table released) (λ a b. levelsOf table released time a ≤ levelsOf table released time b) q
-    (λ a b m n h. let l = h .deadline in level-mono table (deadlineOf table released a) (deadlineOf table released b) time time (omega arith))
+    (λ a b m n h. level-mono table (deadlineOf table released a) (deadlineOf table released b) time time (omega (arith, h .deadline)))
