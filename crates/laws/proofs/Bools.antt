@@ -1,6 +1,7 @@
 -- Tests and their digits. Assumes nothing.
 use mathlib.Core.Path.{_≡_, refl, sym, ap}
 use mathlib.Core.Bool.{Bool, true, false, _&&_}
+use mathlib.Core.Logic.{_⊎_, inl, inr}
 use Prim.Native.Nat.{ℕ, _≤_}
 use native.Mathlib.Omega.{arith}
 use Rattle.laws.specs.Words.{digit}
@@ -29,3 +30,12 @@ same-test false false h g = refl
 pub both-true : (a b : Bool) → a && b ≡ true → (a ≡ true) × (b ≡ true)
 both-true true b e = (refl, e)
 both-true false b e = true-false false e refl
+
+pub both-false : (a b : Bool) → a && b ≡ false → (a ≡ false) ⊎ (b ≡ false)
+both-false true b e = inr e
+both-false false b e = inl refl
+
+pub either-false : (a b : Bool) → (a ≡ false) ⊎ (b ≡ false) → a && b ≡ false
+either-false true b (inl e) = true-false true refl e
+either-false true b (inr e) = e
+either-false false b h = refl

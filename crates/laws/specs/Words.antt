@@ -45,6 +45,11 @@ abbrev pub Ahead : {X : Type 0} → X → X → List X → Type 0
 Ahead x y [] = ⊥
 Ahead x y (a ∷ q) = ((x ≡ a) × In y q) ⊎ Ahead x y q
 
+-- P holds of each of the list
+abbrev pub All : {X : Type 0} → (X → Type 0) → List X → Type 0
+All P [] = Unit {0}
+All P (a ∷ q) = P a × All P q
+
 -- each of the list stands in R to all behind it
 abbrev pub Sorted : {X : Type 0} → (X → X → Type 0) → List X → Type 0
 Sorted R [] = Unit {0}

@@ -44,15 +44,22 @@ pub level-none : (table : List Task) (a b : ℕ) → a ≤ b → levelAt table b
 level-none table a b h =
     omega (arith, level-nat table a b, count-none (ends a b) (deadlines table) (λ d m. le-ltb (b + d) a (omega arith)))
 
+-- how many deadlines are below b
+abbrev pub below : List Task → ℕ → ℕ
+below table b = count (λ d. ltb d b) (deadlines table)
+
+-- where the remaining time is at most c, and more than each deadline below c, the level is that of c
+pub level-below : (table : List Task) (a b c : ℕ) → a ≤ b + c → ((d : ℕ) → In d (deadlines table) → d < c → b + d < a) → levelAt table b a ≡ 1 + below table c
+level-below table a b c h more =
+    level-nat table a b
+    ∙ ap (λ (n : ℕ). 1 + n) (count-same (λ d. ltb (b + d) a) (λ d. ltb d c) (deadlines table)
+    (λ d m. same-test (ltb (b + d) a) (ltb d c) (λ t. let l = ltb-true (b + d) a t in lt-ltb d c (omega arith))
+    (λ t. lt-ltb (b + d) a (more d m (ltb-true d c t)))))
+
 -- a job released now has its task's first level
 pub level-first : (table : List Task) (k b : ℕ) → levelAt table b (b + taskAt table k .d) ≡ firstLevel table k
 unfolding firstLevel
-level-first table k b =
-    level-nat table (b + taskAt table k .d) b
-    ∙ ap (λ (n : ℕ). 1 + n) (count-same (ends (b + taskAt table k .d) b) (λ d. ltb d (taskAt table k .d)) (deadlines table)
-    (λ d m. same-test (ltb (b + d) (b + taskAt table k .d)) (ltb d (taskAt table k .d))
-    (λ t. let l = ltb-true (b + d) (b + taskAt table k .d) t in lt-ltb d (taskAt table k .d) (omega arith))
-    (λ t. let l = ltb-true d (taskAt table k .d) t in lt-ltb (b + d) (b + taskAt table k .d) (omega arith))))
+level-first table k b = level-below table (b + taskAt table k .d) b (taskAt table k .d) (omega arith) (λ d m l. omega arith)
 
 -- ---- tasks of the table
 

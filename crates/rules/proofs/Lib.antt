@@ -1,7 +1,8 @@
--- What is proved of the rules. Theorems: the demands. Document003: the paper's own lemmas. The others stand below these.
+-- What is proved of the rules. Read Theorems first: the demands. Document003 has the paper's own lemmas, Cases and Example what computes.
 pub mod Verdicts
 pub mod Tables
 pub mod Levels
+pub mod Plans
 pub mod Ready
 pub mod Ranges
 pub mod Queues
@@ -11,5 +12,10 @@ pub mod Jobs
 pub mod Agreement
 pub mod Called
 pub mod Theorems
+pub mod Listings
 pub mod Wholes
+pub mod Promotion
 pub mod Refinement
+pub mod Document003
+pub mod Example
+pub mod Cases

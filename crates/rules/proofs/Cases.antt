@@ -1,0 +1,112 @@
+-- "Both sides of each line": the cases marked †, with those that pin the other numbers, as one statement over one table. Assumes nothing.
+use mathlib.Core.Path.{_≡_, refl}
+use mathlib.Core.List.{List, [], _∷_}
+use Prim.Native.Nat.{ℕ, _+_, _-_, _^_}
+use native.Mathlib.Omega.{arith}
+use lib.IntN.{ℤ, pos, negsuc}
+use lib.ListN.{length, replicate}
+use Rattle.laws.specs.Words.{All, behind, count, sum, those, joined}
+use Rattle.rules.specs.Numbers.{TableSize, OutOfRange, OutOfOrder, Overload, ClockFull, Verdict, Passed, Failed, firstOf}
+use Rattle.rules.specs.Table.{Task, most, tasksTests, verdictOf}
+use Rattle.rules.specs.Levels.{remainingOf, levelOf, firstLevel, largestBelow, pointsBelow, planOf}
+use Rattle.rules.specs.Clock.{lastTick, elapsedOf, wentBack, timeAfter, tooFar}
+use Rattle.rules.specs.State.{listing}
+use Rattle.rules.specs.Calls.{Call, Release, Done, Clock, None, Ticks, startOf, clockTests, testsOf, lowest, movesOf, stepOf}
+use Rattle.rules.specs.Lines.{PlanLine, EventLine, planLines, lineOf}
+use Rattle.rules.specs.Histories.{runOf}
+use Rattle.rules.proofs.Levels.{level-none}
+use Rattle.rules.proofs.Plans.{plan-alone}
+use Rattle.rules.proofs.Example.{task, planLine, point, line}
+
+-- what a case says
+pub data Case : Type 0 where
+  -- the P lines of a table
+  PlansOf : (table : List Task) (lines : List PlanLine) → Case
+  -- with this remaining time, the level; in this table, and in any
+  LevelIn : (table : List Task) (remaining : ℤ) (level : ℕ) → Case
+  LevelInAny : (remaining : ℤ) (level : ℕ) → Case
+  -- a table of one task: level 1, no points
+  OneTask : Case
+  -- last reading, reading, elapsed
+  Elapsed : (last reading elapsed : ℕ) → Case
+  -- clock, last reading, reading, and what tests 5 and 6 find
+  ClockTest : (clock last reading : ℕ) (verdict : Verdict) → Case
+  -- what the table tests find
+  TableTest : (table : List Task) (verdict : Verdict) → Case
+  -- a start, calls, one call more and its E line
+  LineOf : (table : List Task) (start : ℕ) (calls : List Call) (next : Call) (line : EventLine) → Case
+
+abbrev pub Holds : Case → Type 0
+Holds (PlansOf table lines) = planLines table (length table) 1 ≡ lines
+Holds (LevelIn table remaining level) = levelOf table remaining ≡ level
+Holds (LevelInAny remaining level) = (table : List Task) → levelOf table remaining ≡ level
+Holds OneTask = (x : Task) → (firstLevel (x ∷ []) 1 ≡ 1) × (planOf (x ∷ []) 1 ≡ [])
+Holds (Elapsed last reading elapsed) = elapsedOf reading last ≡ elapsed
+Holds (ClockTest clock last reading verdict) = firstOf (clockTests clock last reading) ≡ verdict
+Holds (TableTest table verdict) = verdictOf table ≡ verdict
+Holds (LineOf table start calls next line) = lineOf 1 (stepOf (runOf (startOf table start) calls) next) ≡ line
+
+abbrev four : List Task
+four = task 1 5 9 ∷ task 1 5 9 ∷ task 1 5 9 ∷ task 1 9 9 ∷ []
+
+abbrev one : List Task
+one = task 1 7 9 ∷ []
+
+abbrev two : List Task
+two = task 1 6 9 ∷ task 1 4 9 ∷ []
+
+abbrev pub cases : List Case
+cases =
+    -- † "D of 5, 5, 5, 9: first levels 1, 1, 1, 4. Task 4 has one point, 4:1"
+    PlansOf four (planLine 1 1 [] ∷ planLine 2 1 [] ∷ planLine 3 1 [] ∷ planLine 4 4 (point 4 1 ∷ []) ∷ [])
+    -- † "With remaining 6 its job is at level 4; with 5 at level 1"
+    ∷ LevelIn four (pos 6) 4
+    ∷ LevelIn four (pos 5) 1
+    -- † "Remaining 0 or −3: level 1 in any table"
+    ∷ LevelInAny (pos 0) 1
+    ∷ LevelInAny (negsuc 2) 1
+    -- † "One task: level 1, no points"
+    ∷ OneTask
+    -- † "Last reading 4294967290, reading 4: elapsed 10"; so a job of D 7 ends 3 late
+    ∷ Elapsed 4294967290 4 10
+    ∷ LineOf one 4294967290 (Release 4294967290 1 ∷ []) (Done 4 1) (line 1 0 0 0 0 (Ticks (negsuc 2)))
+    -- † "Elapsed 2147483647 passes; 2147483648 gives 5"
+    ∷ LineOf one 5 [] (Clock 2147483652) (line 1 0 0 0 0 None)
+    ∷ LineOf one 5 [] (Clock 2147483653) (line 1 5 0 0 0 None)
+    -- "Clock exactly 2^40 passes; one more gives 6"
+    ∷ ClockTest (lastTick - 1) 0 1 Passed
+    ∷ ClockTest (lastTick - 1) 0 2 (Failed ClockFull)
+    -- † "Release T after the last passes; T − 1 gives 9"; "while active, 8 comes first"
+    ∷ LineOf one 0 (Release 0 1 ∷ Done 1 1 ∷ []) (Release 9 1) (line 1 0 1 0 0 None)
+    ∷ LineOf one 0 (Release 0 1 ∷ Done 1 1 ∷ []) (Release 8 1) (line 1 9 0 0 0 None)
+    ∷ LineOf one 0 (Release 0 1 ∷ []) (Release 8 1) (line 1 8 1 0 0 None)
+    -- † "D of 6 and 4, task 1 released at 0 and task 2 at 2: equal deadlines, task 1 goes on"
+    ∷ LineOf two 0 (Release 0 1 ∷ []) (Release 2 2) (line 1 0 1 0 1 None)
+    -- † "Done at the deadline: margin 0; one tick after: −1"
+    ∷ LineOf one 0 (Release 0 1 ∷ []) (Done 7 1) (line 1 0 0 0 0 (Ticks (pos 0)))
+    ∷ LineOf one 0 (Release 0 1 ∷ []) (Done 8 1) (line 1 0 0 0 0 (Ticks (negsuc 0)))
+    -- numbers 7 and 10
+    ∷ LineOf one 0 (Release 0 1 ∷ []) (Release 3 0) (line 1 7 1 0 0 None)
+    ∷ LineOf one 0 (Release 0 1 ∷ []) (Done 3 2) (line 1 7 1 0 0 None)
+    ∷ LineOf one 0 [] (Done 3 1) (line 1 10 0 0 0 None)
+    -- both sides of the table's tests: the count, the range, C ≤ D ≤ T, the load; "each quotient rounded down"
+    ∷ TableTest [] (Failed TableSize)
+    ∷ TableTest (replicate most (task 1 (2 ^ 30) (2 ^ 30))) Passed
+    ∷ TableTest (replicate (most + 1) (task 1 (2 ^ 30) (2 ^ 30))) (Failed TableSize)
+    ∷ TableTest (task 1 2 4 ∷ task 0 2 1 ∷ []) (Failed (OutOfRange 2))
+    ∷ TableTest (task 1 2 (2 ^ 30 + 1) ∷ []) (Failed (OutOfRange 1))
+    ∷ TableTest (task 1 2 4 ∷ task 3 2 4 ∷ task 0 2 4 ∷ []) (Failed (OutOfOrder 2))
+    ∷ TableTest (task 1 4 4 ∷ task 4 4 4 ∷ []) (Failed Overload)
+    ∷ TableTest (task 1 3 3 ∷ task 1 3 3 ∷ task 1 3 3 ∷ []) Passed
+    ∷ TableTest (task 1 1 1 ∷ []) Passed
+    ∷ []
+
+pub cases-hold : All Holds cases
+unfolding planLines firstLevel planOf pointsBelow largestBelow verdictOf tasksTests runOf stepOf testsOf firstOf timeAfter elapsedOf wentBack tooFar movesOf lowest listing joined those count sum levelOf remainingOf
+cases-hold =
+    (refl, (refl, (refl, (λ table. level-none table 0 0 (omega arith), (λ table. level-none table 0 3 (omega arith), (plan-alone, computed))))))
+  where
+    -- the rest computes
+    computed : All Holds (behind (behind (behind (behind (behind (behind cases))))))
+    computed =
+        (refl, (refl, (refl, (refl, (refl, (refl, (refl, (refl, (refl, (refl, (refl, (refl, (refl, (refl, (refl, (refl, (refl, (refl, (refl, (refl, (refl, (refl, (refl, (refl, tt))))))))))))))))))))))))

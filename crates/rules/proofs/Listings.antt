@@ -1,0 +1,81 @@
+-- Demand 1 of the listing, and how much of the buffer it uses. Assumes nothing.
+use mathlib.Core.Path.{_≡_, refl, sym, ap, _∙_}
+use mathlib.Core.List.{List, [], _∷_}
+use Prim.Native.Nat.{ℕ, zero, suc, _+_, _-_, _*_, _≤_}
+use native.Mathlib.Omega.{arith}
+use borrow.Author.Tests.{ltb-false}
+use lib.ListN.{length, getD, drop, length-append, length-drop}
+use lib.Seq.{getD-append-add, getD-drop}
+use Rattle.laws.specs.Words.{joined}
+use Rattle.rules.specs.Numbers.{Refusal, Verdict, Passed, Failed, firstOf}
+use Rattle.rules.specs.Table.{most}
+use Rattle.rules.specs.State.{State, listing, waiting}
+use Rattle.rules.specs.Listing.{pairsOf, bytesOf, written, listingTests, Listed, listedBy, listedOf}
+use Rattle.rules.specs.Demands.{Demand1Listing}
+use Rattle.rules.proofs.Verdicts.{passed-failed, pass, exactly}
+
+-- ---- "It uses twice the number waiting"
+
+pairs-twice : (l : ℕ) (q : List ℕ) → length (pairsOf l q) ≡ 2 * length q
+unfolding pairsOf
+pairs-twice l [] = refl
+pairs-twice l (k ∷ q) = omega (arith, pairs-twice l q)
+
+joined-twice : (lists : ℕ → List ℕ) (n k : ℕ) → length (joined (λ l. pairsOf l (lists l)) n k) ≡ 2 * length (joined lists n k)
+unfolding joined
+joined-twice lists zero k = refl
+joined-twice lists (suc n) k =
+    omega (
+      arith,
+      length-append (pairsOf k (lists k)) (joined (λ l. pairsOf l (lists l)) n (suc k)),
+      length-append (lists k) (joined lists n (suc k)),
+      pairs-twice k (lists k),
+      joined-twice lists n (suc k),
+    )
+
+pub bytes-twice : (lists : ℕ → List ℕ) → length (bytesOf lists) ≡ 2 * length (listing lists)
+unfolding bytesOf listing
+bytes-twice lists = joined-twice lists most 1
+
+-- ---- what is written into a buffer
+
+written-size : (bytes buffer : List ℕ) → length bytes ≤ length buffer → length (written bytes buffer) ≡ length buffer
+written-size bytes buffer h = omega (arith, length-append bytes (drop (length bytes) buffer), length-drop (length bytes) buffer)
+
+written-behind : (bytes buffer : List ℕ) (i : ℕ) → length bytes ≤ i → getD (written bytes buffer) i 0 ≡ getD buffer i 0
+written-behind bytes buffer i h =
+    let p : i ≡ length bytes + (i - length bytes) = omega arith in
+    ap (λ (j : ℕ). getD (written bytes buffer) j 0) p ∙ getD-append-add bytes (drop (length bytes) buffer) (i - length bytes) 0
+    ∙ getD-drop (length bytes) buffer (i - length bytes) 0 ∙ ap (λ (j : ℕ). getD buffer j 0) (sym p)
+
+-- ---- demand 1 of the listing
+
+module _ (s : State) (buffer : List ℕ) where
+  abbrev bytes : List ℕ
+  bytes = bytesOf (s .ready .lists)
+
+  -- what holds of a listing passed and of one refused
+  listed-cases : (P : Listed → Type 0) → (firstOf (listingTests s buffer) ≡ Passed → P (listedBy s buffer Passed))
+      → ((r : Refusal) → firstOf (listingTests s buffer) ≡ Failed r → P (listedBy s buffer (Failed r))) → P (listedOf s buffer)
+  unfolding listedOf
+  listed-cases P p f = go (firstOf (listingTests s buffer)) refl
+    where
+      go : (v : Verdict) → firstOf (listingTests s buffer) ≡ v → P (listedBy s buffer v)
+      go Passed e = p e
+      go (Failed r) e = f r e
+
+  passed-fits : firstOf (listingTests s buffer) ≡ Passed → length bytes ≤ length buffer
+  passed-fits e =
+      let h : 2 * length (waiting s) ≤ length buffer = ltb-false _ _ (pass _ _ e .0) in
+      omega (arith, bytes-twice (s .ready .lists))
+
+  pub demand-1-listing : Demand1Listing s buffer
+  demand-1-listing =
+      record {
+        exactly = rw (listed-cases (λ x. x .verdict ≡ firstOf (listingTests s buffer)) (λ e. sym e) (λ r e. sym e)) (exactly (listingTests s buffer));
+        unchanged = λ r. listed-cases (λ x. x .verdict ≡ Failed r → x .buffer ≡ buffer) (λ e f. passed-failed Passed r refl f) (λ q e f. refl);
+        size = listed-cases (λ x. length (x .buffer) ≡ length buffer) (λ e. written-size bytes buffer (passed-fits e)) (λ r e. refl);
+        behind =
+            λ i h. listed-cases (λ x. getD (x .buffer) i 0 ≡ getD buffer i 0)
+            (λ e. written-behind bytes buffer i (omega (arith, bytes-twice (s .ready .lists)))) (λ r e. refl);
+      }
