@@ -1,22 +1,25 @@
 -- "Both sides of each line": the cases marked †, with those that pin the other numbers, as one statement over one table. Assumes nothing.
 use mathlib.Core.Path.{_≡_, refl}
+use mathlib.Core.Bool.{true}
 use mathlib.Core.List.{List, [], _∷_}
 use Prim.Native.Nat.{ℕ, _+_, _-_, _^_}
 use native.Mathlib.Omega.{arith}
 use lib.IntN.{ℤ, pos, negsuc}
 use lib.ListN.{length, replicate}
-use Rattle.laws.specs.Words.{All, behind, count, sum, those, joined}
-use Rattle.rules.specs.Numbers.{TableSize, OutOfRange, OutOfOrder, Overload, ClockFull, Verdict, Passed, Failed, firstOf}
+use Rattle.laws.specs.Words.{All, behind, put, count, sum, those, joined}
+use Rattle.rules.specs.Numbers.{TableSize, OutOfRange, OutOfOrder, Overload, ClockFull, BufferTooShort, Verdict, Passed, Failed, firstOf}
 use Rattle.rules.specs.Table.{Task, most, tasksTests, verdictOf}
 use Rattle.rules.specs.Levels.{remainingOf, levelOf, firstLevel, largestBelow, pointsBelow, planOf}
 use Rattle.rules.specs.Clock.{lastTick, elapsedOf, wentBack, timeAfter, tooFar}
 use Rattle.rules.specs.State.{listing}
 use Rattle.rules.specs.Calls.{Call, Release, Done, Clock, None, Ticks, startOf, clockTests, testsOf, lowest, movesOf, stepOf}
+use Rattle.rules.specs.Listing.{pairsOf, bytesOf, Listed, listedOf}
 use Rattle.rules.specs.Lines.{PlanLine, EventLine, planLines, lineOf}
-use Rattle.rules.specs.Histories.{runOf}
+use Rattle.rules.specs.Histories.{Job, before, runOf}
+use Rattle.rules.specs.Promotion.{drained, promoted}
 use Rattle.rules.proofs.Levels.{level-none}
 use Rattle.rules.proofs.Plans.{plan-alone}
-use Rattle.rules.proofs.Example.{task, planLine, point, line}
+use Rattle.rules.proofs.Example.{task, planLine, point, line, example}
 
 -- what a case says
 pub data Case : Type 0 where
@@ -35,6 +38,14 @@ pub data Case : Type 0 where
   TableTest : (table : List Task) (verdict : Verdict) → Case
   -- a start, calls, one call more and its E line
   LineOf : (table : List Task) (start : ℕ) (calls : List Call) (next : Call) (line : EventLine) → Case
+  -- a start at reading 0, calls, a lent buffer and what the listing gives back
+  ListingOf : (table : List Task) (calls : List Call) (buffer : List ℕ) (listed : Listed) → Case
+  -- a start at reading 0, calls, and the bytes of the listing: level and task of each waiting job
+  Waits : (table : List Task) (calls : List Call) (bytes : List ℕ) → Case
+  -- new levels, lists, and the bytes of the listing once promotion in place is done
+  Promotes : (new : ℕ → ℕ) (lists : ℕ → List ℕ) (bytes : List ℕ) → Case
+  -- the first of two jobs comes before the other
+  Precedes : (a b : Job) → Case
 
 abbrev pub Holds : Case → Type 0
 Holds (PlansOf table lines) = planLines table (length table) 1 ≡ lines
@@ -45,6 +56,10 @@ Holds (Elapsed last reading elapsed) = elapsedOf reading last ≡ elapsed
 Holds (ClockTest clock last reading verdict) = firstOf (clockTests clock last reading) ≡ verdict
 Holds (TableTest table verdict) = verdictOf table ≡ verdict
 Holds (LineOf table start calls next line) = lineOf 1 (stepOf (runOf (startOf table start) calls) next) ≡ line
+Holds (ListingOf table calls buffer listed) = listedOf (runOf (startOf table 0) calls) buffer ≡ listed
+Holds (Waits table calls bytes) = bytesOf (runOf (startOf table 0) calls .ready .lists) ≡ bytes
+Holds (Promotes new lists bytes) = bytesOf (promoted new (most - 1) 2 lists) ≡ bytes
+Holds (Precedes a b) = before a b ≡ true
 
 abbrev four : List Task
 four = task 1 5 9 ∷ task 1 5 9 ∷ task 1 5 9 ∷ task 1 9 9 ∷ []
@@ -54,6 +69,13 @@ one = task 1 7 9 ∷ []
 
 abbrev two : List Task
 two = task 1 6 9 ∷ task 1 4 9 ∷ []
+
+abbrev late : List Task
+late = task 1 2 9 ∷ task 1 9 9 ∷ task 1 9 9 ∷ task 1 9 9 ∷ []
+
+-- task 1 runs, task 2 waits at level 1 and task 4 at level 4
+abbrev twoWait : List Call
+twoWait = Release 0 4 ∷ Release 0 1 ∷ Release 0 2 ∷ []
 
 abbrev pub cases : List Case
 cases =
@@ -99,14 +121,32 @@ cases =
     ∷ TableTest (task 1 4 4 ∷ task 4 4 4 ∷ []) (Failed Overload)
     ∷ TableTest (task 1 3 3 ∷ task 1 3 3 ∷ task 1 3 3 ∷ []) Passed
     ∷ TableTest (task 1 1 1 ∷ []) Passed
+    -- "Two waiting, buffer of 3 bytes: 11. Of 4: both written. None waiting: an empty buffer will do"; bytes behind stay
+    ∷ ListingOf four twoWait (7 ∷ 7 ∷ 7 ∷ []) (record { verdict = Failed BufferTooShort; waiting = 0; buffer = 7 ∷ 7 ∷ 7 ∷ [] })
+    ∷ ListingOf four twoWait (7 ∷ 7 ∷ 7 ∷ 7 ∷ []) (record { verdict = Passed; waiting = 2; buffer = 1 ∷ 2 ∷ 4 ∷ 4 ∷ [] })
+    ∷ ListingOf four twoWait (7 ∷ 7 ∷ 7 ∷ 7 ∷ 7 ∷ []) (record { verdict = Passed; waiting = 2; buffer = 1 ∷ 2 ∷ 4 ∷ 4 ∷ 7 ∷ [] })
+    ∷ ListingOf four [] [] (record { verdict = Passed; waiting = 0; buffer = [] })
+    -- the clock takes task 3 from level 3 to level 2, behind task 2
+    ∷ Waits example (Release 0 1 ∷ Release 0 2 ∷ Release 0 3 ∷ Clock 3 ∷ []) (2 ∷ 2 ∷ 2 ∷ 3 ∷ [])
+    -- a released job goes to the end of its list, and the preempted one to the front
+    ∷ Waits late (Release 0 2 ∷ Release 0 3 ∷ Release 0 4 ∷ []) (2 ∷ 3 ∷ 2 ∷ 4 ∷ [])
+    ∷ Waits late (Release 0 2 ∷ Release 0 3 ∷ Release 0 1 ∷ []) (2 ∷ 2 ∷ 2 ∷ 3 ∷ [])
+    -- the lowest-numbered list gives who runs next
+    ∷ LineOf example 0 (Release 0 1 ∷ Release 0 2 ∷ Release 0 3 ∷ []) (Done 1 1) (line 1 0 2 0 1 (Ticks (pos 1)))
+    -- a refused call leaves the last reading: 2 is after the 0 of the start
+    ∷ LineOf one 0 (Release 3 2 ∷ []) (Clock 2) (line 1 0 0 0 0 None)
+    -- a long step passes several promotions, and earlier lists go first
+    ∷ Promotes (λ k. 1) (put (put (λ l. []) 2 (2 ∷ [])) 3 (3 ∷ 4 ∷ [])) (1 ∷ 2 ∷ 1 ∷ 3 ∷ 1 ∷ 4 ∷ [])
+    -- of equal deadlines, the earlier release call
+    ∷ Precedes (record { task = 2; deadline = 10; call = 1 }) (record { task = 1; deadline = 10; call = 2 })
     ∷ []
 
 pub cases-hold : All Holds cases
-unfolding planLines firstLevel planOf pointsBelow largestBelow verdictOf tasksTests runOf stepOf testsOf firstOf timeAfter elapsedOf wentBack tooFar movesOf lowest listing joined those count sum levelOf remainingOf
+unfolding planLines firstLevel planOf pointsBelow largestBelow verdictOf tasksTests runOf stepOf testsOf firstOf timeAfter elapsedOf wentBack tooFar movesOf lowest listing listedOf bytesOf pairsOf promoted drained joined those count sum levelOf remainingOf
 cases-hold =
     (refl, (refl, (refl, (λ table. level-none table 0 0 (omega arith), (λ table. level-none table 0 3 (omega arith), (plan-alone, computed))))))
   where
     -- the rest computes
     computed : All Holds (behind (behind (behind (behind (behind (behind cases))))))
     computed =
-        (refl, (refl, (refl, (refl, (refl, (refl, (refl, (refl, (refl, (refl, (refl, (refl, (refl, (refl, (refl, (refl, (refl, (refl, (refl, (refl, (refl, (refl, (refl, (refl, tt))))))))))))))))))))))))
+        (refl, (refl, (refl, (refl, (refl, (refl, (refl, (refl, (refl, (refl, (refl, (refl, (refl, (refl, (refl, (refl, (refl, (refl, (refl, (refl, (refl, (refl, (refl, (refl, (refl, (refl, (refl, (refl, (refl, (refl, (refl, (refl, (refl, (refl, (refl, tt)))))))))))))))))))))))))))))))))))
