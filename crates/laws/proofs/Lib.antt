@@ -4,3 +4,4 @@ pub mod Counts
 pub mod Orders
 pub mod Families
 pub mod Signed
+pub mod Buffers

@@ -5,6 +5,7 @@ use mathlib.Core.Bool.{Bool, true, false}
 use mathlib.Core.Logic.{_⊎_}
 use mathlib.Core.List.{List, [], _∷_, _++_}
 use lib.Dec.{eqb}
+use lib.ListN.{length, drop}
 
 -- ---- choosing and counting
 
@@ -86,3 +87,9 @@ grouped f xs n = those (λ x. eqb (f x) n) xs
 unfoldable pub joined : {X : Type 0} → (ℕ → List X) → ℕ → ℕ → List X
 joined lists zero l = []
 joined lists (suc n) l = lists l ++ joined lists n (suc l)
+
+-- ---- lent buffers
+
+-- xs put into a buffer from its front; what lies behind them stays
+abbrev pub written : {X : Type 0} → List X → List X → List X
+written xs buffer = xs ++ drop (length xs) buffer

@@ -1,18 +1,18 @@
 -- What the calls and answers of a history tell is what the state holds. Assumes nothing.
 use mathlib.Core.Path.{_≡_, refl, sym, ap, ap₂, _∙_, subst}
 use mathlib.Core.Bool.{Bool, true, false, not}
-use mathlib.Core.Logic.{_⊎_, inl, inr, ⊎-elim}
+use mathlib.Core.Logic.{⊎-elim}
 use mathlib.Core.List.{List, [], _∷_}
 use Prim.Native.Nat.{ℕ, suc, _+_, _≤_, _<_}
 use native.Mathlib.Omega.{arith}
 use lib.Dec.{eqb}
-use Rattle.laws.specs.Words.{count, those, In, Sorted, behind, put, inserted, inOrder}
+use Rattle.laws.specs.Words.{count, those, In, Sorted, behind, put, inOrder}
 use Rattle.laws.proofs.Bools.{digit-le, true-false}
 use Rattle.laws.proofs.Orders.{in-map, in-behind, map-behind, sorted-behind, in-inserted, sorted-inserted, inOrder-those}
 use Rattle.rules.specs.Numbers.{Passed, firstOf}
 use Rattle.rules.specs.Table.{Task, taskAt, verdictOf}
 use Rattle.rules.specs.Clock.{timeAfter}
-use Rattle.rules.specs.State.{Running, Nobody, One, Last, At, timeOf, State, deadlineOf, deadlineIn}
+use Rattle.rules.specs.State.{Running, One, Last, At, timeOf, State, deadlineOf, deadlineIn}
 use Rattle.rules.specs.Calls.{Call, Release, Done, Clock, Accepted, readingOf, startOf, movesOf, marginOf, testsOf, frontOf, releasedNow, thenDo, stepOf}
 use Rattle.rules.specs.Histories.{Job, Seen, runOf, eventsOf, seenAtStart, timeSeen, seeBy, seenAfter, before, unfinished, tasksOf}
 use Rattle.rules.proofs.Tables.{sound-to-3}

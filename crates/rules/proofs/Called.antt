@@ -1,7 +1,7 @@
 -- A state that agrees with its history is the one that the demands call for. Assumes nothing.
 use mathlib.Core.Path.{_≡_, refl, sym, ap, ap₂, _∙_, fun-ext}
 use mathlib.Core.Bool.{Bool, true, false}
-use mathlib.Core.Logic.{_⊎_, inl, inr, ⊎-elim}
+use mathlib.Core.Logic.{inl, inr, ⊎-elim}
 use mathlib.Core.List.{List, [], _∷_, _++_}
 use Prim.Native.Nat.{ℕ, _<_}
 use native.Mathlib.Omega.{arith}
@@ -80,6 +80,7 @@ module _ (s : State) (v : Seen) (a : Agree s v) where
         once = stands-once;
         waiting = lists-others;
         lists = lists-levels;
+        same = λ p. count-inOrder before p (v .jobs);
         order = a .sorted;
         equals = first-call-ahead;
       }

@@ -1,5 +1,5 @@
 -- Document 003's own lemmas, properties and theorem, under their names there. "Higher priority" is a lower level. Assumes nothing.
-use mathlib.Core.Path.{_≡_, refl, sym, ap, _∙_}
+use mathlib.Core.Path.{_≡_, ap}
 use mathlib.Core.Bool.{true}
 use mathlib.Core.Logic.{inl, inr}
 use mathlib.Core.List.{List, _++_}
@@ -11,7 +11,7 @@ use Rattle.laws.proofs.Orders.{sorted-mono}
 use Rattle.rules.specs.Numbers.{Passed, firstOf}
 use Rattle.rules.specs.Table.{Task, isTask, taskAt, deadlines, testsTo3, verdictOf}
 use Rattle.rules.specs.Levels.{levelAt, firstLevel, Point, planOf}
-use Rattle.rules.specs.State.{Running, One, State, deadlineIn, listing, waiting, runs, everyone, MayLead, Whole}
+use Rattle.rules.specs.State.{One, State, deadlineIn, waiting, runs, everyone, MayLead, Whole}
 use Rattle.rules.specs.Calls.{Call}
 use Rattle.rules.specs.Demands.{stateAfter}
 use Rattle.rules.proofs.Levels.{below, level-mono, level-first, level-new}

@@ -1,19 +1,18 @@
 -- Laws of levels. Assumes nothing.
-use mathlib.Core.Path.{_≡_, refl, sym, ap, _∙_}
-use mathlib.Core.Bool.{Bool, true, false}
-use mathlib.Core.List.{List, [], _∷_, map}
-use Prim.Native.Nat.{ℕ, zero, suc, _+_, _-_, _≤_, _<_}
+use mathlib.Core.Path.{_≡_, refl, ap, _∙_}
+use mathlib.Core.Bool.{Bool, true}
+use mathlib.Core.List.{List}
+use Prim.Native.Nat.{ℕ, _+_, _-_, _≤_, _<_}
 use native.Mathlib.Decide.{decLt}
 use native.Mathlib.Omega.{arith}
 use borrow.Author.Tests.{ltb-true, lt-ltb, le-ltb, leb-true}
 use lib.Dec.{ltb, leb}
-use lib.IntN.{ℤ, pos, negsuc, _-ℤ_}
-use lib.ListN.{length, getD, length-map}
+use lib.ListN.{length, length-map}
 use Rattle.laws.specs.Words.{count, In}
 use Rattle.laws.proofs.Bools.{same-test, both-true}
 use Rattle.laws.proofs.Counts.{count-same, count-mono, count-less, count-none, count-all}
 use Rattle.laws.proofs.Orders.{in-map, getD-in}
-use Rattle.laws.proofs.Signed.{less-nat, below-less}
+use Rattle.laws.proofs.Signed.{below-less}
 use Rattle.rules.specs.Table.{Task, taskAt, isTask, deadlines}
 use Rattle.rules.specs.Levels.{remainingOf, smaller, levelOf, levelAt, firstLevel}
 

@@ -1,16 +1,16 @@
 -- Demand 1 of the listing, and how much of the buffer it uses. Assumes nothing.
-use mathlib.Core.Path.{_≡_, refl, sym, ap, _∙_}
+use mathlib.Core.Path.{_≡_, refl, sym}
 use mathlib.Core.List.{List, [], _∷_}
-use Prim.Native.Nat.{ℕ, zero, suc, _+_, _-_, _*_, _≤_}
+use Prim.Native.Nat.{ℕ, zero, suc, _*_, _≤_}
 use native.Mathlib.Omega.{arith}
 use borrow.Author.Tests.{ltb-false}
-use lib.ListN.{length, getD, drop, length-append, length-drop}
-use lib.Seq.{getD-append-add, getD-drop}
+use lib.ListN.{length, getD, length-append}
 use Rattle.laws.specs.Words.{joined}
+use Rattle.laws.proofs.Buffers.{written-size, written-behind}
 use Rattle.rules.specs.Numbers.{Refusal, Verdict, Passed, Failed, firstOf}
 use Rattle.rules.specs.Table.{most}
 use Rattle.rules.specs.State.{State, listing, waiting}
-use Rattle.rules.specs.Listing.{pairsOf, bytesOf, written, listingTests, Listed, listedBy, listedOf}
+use Rattle.rules.specs.Listing.{pairsOf, bytesOf, listingTests, Listed, listedBy, listedOf}
 use Rattle.rules.specs.Demands.{Demand1Listing}
 use Rattle.rules.proofs.Verdicts.{passed-failed, pass, exactly}
 
@@ -36,17 +36,6 @@ joined-twice lists (suc n) k =
 pub bytes-twice : (lists : ℕ → List ℕ) → length (bytesOf lists) ≡ 2 * length (listing lists)
 unfolding bytesOf listing
 bytes-twice lists = joined-twice lists most 1
-
--- ---- what is written into a buffer
-
-written-size : (bytes buffer : List ℕ) → length bytes ≤ length buffer → length (written bytes buffer) ≡ length buffer
-written-size bytes buffer h = omega (arith, length-append bytes (drop (length bytes) buffer), length-drop (length bytes) buffer)
-
-written-behind : (bytes buffer : List ℕ) (i : ℕ) → length bytes ≤ i → getD (written bytes buffer) i 0 ≡ getD buffer i 0
-written-behind bytes buffer i h =
-    let p : i ≡ length bytes + (i - length bytes) = omega arith in
-    ap (λ (j : ℕ). getD (written bytes buffer) j 0) p ∙ getD-append-add bytes (drop (length bytes) buffer) (i - length bytes) 0
-    ∙ getD-drop (length bytes) buffer (i - length bytes) 0 ∙ ap (λ (j : ℕ). getD buffer j 0) (sym p)
 
 -- ---- demand 1 of the listing
 
@@ -77,5 +66,5 @@ module _ (s : State) (buffer : List ℕ) where
         size = listed-cases (λ x. length (x .buffer) ≡ length buffer) (λ e. written-size bytes buffer (passed-fits e)) (λ r e. refl);
         behind =
             λ i h. listed-cases (λ x. getD (x .buffer) i 0 ≡ getD buffer i 0)
-            (λ e. written-behind bytes buffer i (omega (arith, bytes-twice (s .ready .lists)))) (λ r e. refl);
+            (λ e. written-behind bytes buffer i 0 (omega (arith, bytes-twice (s .ready .lists)))) (λ r e. refl);
       }

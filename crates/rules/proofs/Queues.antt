@@ -1,9 +1,8 @@
 -- A state as one list in order, the first of which runs; and what each part of a call makes of that list. Assumes nothing.
 use mathlib.Core.Path.{_≡_, refl, sym, ap, _∙_, subst}
-use mathlib.Core.Bool.{Bool, true, false}
-use mathlib.Core.Logic.{_⊎_, inl, inr}
+use mathlib.Core.Bool.{true, false}
 use mathlib.Core.List.{List, [], _∷_}
-use Prim.Native.Nat.{ℕ, zero, suc, _+_, _≤_, _<_}
+use Prim.Native.Nat.{ℕ, _+_, _≤_, _<_}
 use native.Mathlib.Decide.{ℕ-discrete}
 use native.Mathlib.Omega.{arith}
 use borrow.Author.Tests.{eq-eqb, ne-eqb, ltb-true, ltb-false}
@@ -17,7 +16,7 @@ use Rattle.rules.specs.Numbers.{Passed, firstOf}
 use Rattle.rules.specs.Table.{Task, taskAt, isTask, testsTo3}
 use Rattle.rules.specs.Levels.{levelAt}
 use Rattle.rules.specs.Clock.{lastTick}
-use Rattle.rules.specs.State.{Running, Nobody, One, Last, At, timeOf, Ready, State, deadlineOf, levelsOf, deadlineIn, levelIn, listing, MayLead}
+use Rattle.rules.specs.State.{One, Last, At, timeOf, Ready, State, deadlineOf, levelsOf, deadlineIn, levelIn, listing, MayLead}
 use Rattle.rules.specs.Calls.{relevel, enter, frontOf, leave, moved, releasedNow, begun, ended}
 use Rattle.rules.proofs.Tables.{right-size}
 use Rattle.rules.proofs.Levels.{level-low, level-high, lower-earlier}

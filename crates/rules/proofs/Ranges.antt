@@ -1,12 +1,11 @@
 -- What the lists of a whole state have: numbers that are levels, and an order that is one of levels too. Assumes nothing.
-use mathlib.Core.Path.{_≡_}
 use mathlib.Core.List.{List}
 use Prim.Native.Nat.{ℕ, _≤_}
 use native.Mathlib.Omega.{arith}
 use Rattle.laws.specs.Words.{In, Sorted}
 use Rattle.laws.proofs.Orders.{sorted-mono}
 use Rattle.rules.specs.Table.{Task, most}
-use Rattle.rules.specs.State.{Last, State, deadlineOf, levelsOf, deadlineIn, levelIn, MayLead, Whole}
+use Rattle.rules.specs.State.{Last, State, deadlineOf, levelsOf, deadlineIn, MayLead, Whole}
 use Rattle.rules.proofs.Tables.{right-size}
 use Rattle.rules.proofs.Levels.{level-mono, level-low, level-high}
 

@@ -2,18 +2,18 @@
 -- function. Assumes nothing.
 use mathlib.Core.Path.{_≡_, refl, sym, ap, ap₂, _∙_, fun-ext}
 use mathlib.Core.Bool.{Bool, true, false}
-use mathlib.Core.Logic.{_⊎_, inl, inr}
+use mathlib.Core.Logic.{inl, inr}
 use mathlib.Core.List.{List, [], _∷_, _++_}
 use Prim.Native.Nat.{ℕ, zero, suc, _+_, _≤_, _<_}
 use native.Mathlib.Decide.{ℕ-discrete}
 use native.Mathlib.Omega.{arith}
-use lib.Dec.{eqb, ltb}
-use Rattle.laws.specs.Words.{pick, those, In, Sorted, behind, put, grouped, inserted}
+use lib.Dec.{ltb}
+use Rattle.laws.specs.Words.{pick, those, In, Sorted, behind, grouped, inserted}
 use Rattle.laws.proofs.Families.{put-all, grouped-here, grouped-other, grouped-none, grouped-same, grouped-inserted, grouped-inserted-other, joined-grouped}
 use Rattle.laws.proofs.Orders.{in-behind}
 use Rattle.rules.specs.Table.{most}
-use Rattle.rules.specs.State.{Running, Nobody, One, Ready, listing}
-use Rattle.rules.specs.Calls.{relevel, toFront, toEnd, enterBy, enter, frontOf, orLater, lowest, leaveBy, leave}
+use Rattle.rules.specs.State.{Running, One, Ready, listing}
+use Rattle.rules.specs.Calls.{relevel, toFront, toEnd, enter, frontOf, orLater, lowest, leaveBy, leave}
 
 -- a has the lower number by f
 abbrev pub sooner : (ℕ → ℕ) → ℕ → ℕ → Bool

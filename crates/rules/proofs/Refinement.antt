@@ -1,6 +1,6 @@
 -- From the rules to a program: blocks whose calls do to their view what the rules do have the demands, of every history. Assumes
 -- nothing. (B: a block; W: it is whole; `next` and `answer`: what a call gives back, the answer read as the paper's.)
-use mathlib.Core.Path.{_≡_, refl, sym, ap, ap₂, _∙_, subst}
+use mathlib.Core.Path.{_≡_, refl, sym, ap, ap₂, _∙_}
 use mathlib.Core.List.{List, [], _∷_}
 use Prim.Native.Nat.{ℕ, _≤_}
 use Rattle.rules.specs.Numbers.{Passed}

@@ -1,13 +1,13 @@
 -- One call: it is refused, or it has passed its tests; and what it then makes of the list. Assumes nothing.
-use mathlib.Core.Path.{_≡_, refl, sym, ap, _∙_, subst}
-use mathlib.Core.Bool.{Bool, true, false, not}
+use mathlib.Core.Path.{_≡_, refl, ap}
+use mathlib.Core.Bool.{true, false}
 use mathlib.Core.List.{List, [], _∷_, _++_}
-use Prim.Native.Nat.{ℕ, _+_, _≤_}
+use Prim.Native.Nat.{ℕ, _≤_}
 use native.Mathlib.Omega.{arith}
 use borrow.Author.Tests.{eqb-true, ltb-false, not-false}
 use Rattle.laws.specs.Words.{behind, inserted}
 use Rattle.laws.proofs.Bools.{true-false}
-use Rattle.rules.specs.Numbers.{Refusal, CounterWentBack, ClockFull, TaskActive, Test, refuse, Verdict, Passed, Failed, firstOf}
+use Rattle.rules.specs.Numbers.{Refusal, CounterWentBack, ClockFull, Test, refuse, Verdict, Passed, Failed, firstOf}
 use Rattle.rules.specs.Table.{isTask}
 use Rattle.rules.specs.Clock.{lastTick, elapsedOf, wentBack, timeAfter, tooFar}
 use Rattle.rules.specs.State.{Running, Nobody, One, State, deadlineOf}

@@ -1,19 +1,21 @@
 -- THE THREE DEMANDS, of every table that passes its tests, every start reading and every list of calls. Assumes nothing.
-use mathlib.Core.Path.{_≡_, refl, sym, ap, _∙_, subst}
+use mathlib.Core.Path.{_≡_, refl, sym, ap, ap₂, _∙_, subst}
 use mathlib.Core.List.{List, []}
 use Prim.Native.Nat.{ℕ}
 use native.Mathlib.Omega.{arith}
-use Rattle.laws.specs.Words.{sum}
+use Rattle.laws.specs.Words.{sum, In}
+use Rattle.laws.proofs.Orders.{inOrder-in}
 use Rattle.rules.specs.Numbers.{Refusal, Passed}
 use Rattle.rules.specs.Table.{Task, verdictOf}
-use Rattle.rules.specs.State.{Running, State}
-use Rattle.rules.specs.Calls.{Call, Answer, Accepted, Refused, Margin, startOf, movesOf, testsOf, stepOf}
-use Rattle.rules.specs.Histories.{seenAtStart, called, fallsOf}
+use Rattle.rules.specs.Levels.{remainingOf}
+use Rattle.rules.specs.State.{Running, State, deadlineIn}
+use Rattle.rules.specs.Calls.{Call, Done, Ticks, Answer, Accepted, Refused, Margin, startOf, movesOf, testsOf, stepOf}
+use Rattle.rules.specs.Histories.{Job, Seen, seenAtStart, timeSeen, before, called, fallsOf}
 use Rattle.rules.specs.Demands.{Exactly, verdictIn, Demand1, Demand2, Demand3, Demands, stateAfter, seen, answerTo}
 use Rattle.rules.proofs.Verdicts.{exactly}
 use Rattle.rules.proofs.Steps.{step-cases, timeOfCall}
 use Rattle.rules.proofs.Bound.{bounded-from}
-use Rattle.rules.proofs.Agreement.{Agree, start-queue, start-agrees, run-table, run-agrees}
+use Rattle.rules.proofs.Agreement.{Agree, start-queue, start-agrees, same-time, run-table, run-agrees}
 use Rattle.rules.proofs.Called.{agree-demand2, agree-moves, agree-called}
 
 -- ---- demand 1, of any call on any state
@@ -30,8 +32,15 @@ demand-1 s c =
       unchanged = λ r. step-cases (λ x. x .answer ≡ Refused r → x .state ≡ s) s c (λ q e h. refl) (λ e h. accepted-refused refl h);
     }
 
-accepted-moves : {r r′ : Running} {m m′ : ℕ} {g g′ : Margin} → Accepted r m g ≡ Accepted r′ m′ g′ → m ≡ m′
-accepted-moves e = cc
+module _ {r r′ : Running} {m m′ : ℕ} {g g′ : Margin} (e : Accepted r m g ≡ Accepted r′ m′ g′) where
+  accepted-runs : r ≡ r′
+  accepted-runs = cc
+
+  accepted-moves : m ≡ m′
+  accepted-moves = cc
+
+  accepted-margin : g ≡ g′
+  accepted-margin = cc
 
 -- ---- all of a history
 
@@ -71,3 +80,30 @@ module _ (table : List Task) (reading : ℕ) (sound : verdictOf table ≡ Passed
 
   pub answer-called : (cs : List Call) (c : Call) → answerTo table reading cs c ≡ stepOf (called table (seen table reading cs)) c .answer
   answer-called cs c = ap (λ (s : State). stepOf s c .answer) (state-called cs)
+
+  -- "for done the margin, deadline less the time of the call"
+  pub answer-margin : (cs : List Call) (n k : ℕ) (r : Running) (m : ℕ) (g : Margin) → answerTo table reading cs (Done n k) ≡ Accepted r m g
+      → (j : Job) → In j (seen table reading cs .jobs) → j .task ≡ k → g ≡ Ticks (remainingOf (j .deadline) (timeSeen (seen table reading cs) (Done n k)))
+  answer-margin cs n k r m g h j i e =
+      step-cases (λ x. x .answer ≡ Accepted r m g → g ≡ Ticks (remainingOf (j .deadline) (timeSeen v c))) s c (λ q f a. accepted-refused a refl)
+      (λ f a. sym (accepted-margin a) ∙ ap₂ (λ (d t : ℕ). Ticks (remainingOf d t)) due (same-time s v agrees c)) h
+    where
+      c : Call
+      c = Done n k
+
+      s : State
+      s = stateAfter table reading cs
+
+      v : Seen
+      v = seen table reading cs
+
+      agrees : Agree s v
+      agrees = agree-always cs
+
+      due : deadlineIn s k ≡ j .deadline
+      due = ap (deadlineIn s) (sym e) ∙ agrees .deadlines j (inOrder-in before j (v .jobs) i)
+
+-- "An accepted answer holds who runs": after the call
+pub answer-running : (s : State) (c : Call) (r : Running) (m : ℕ) (g : Margin) → stepOf s c .answer ≡ Accepted r m g → stepOf s c .state .ready .running ≡ r
+answer-running s c r m g =
+    step-cases (λ x. x .answer ≡ Accepted r m g → x .state .ready .running ≡ r) s c (λ q e h. accepted-refused h refl) (λ e h. accepted-runs h)

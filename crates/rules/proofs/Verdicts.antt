@@ -1,13 +1,12 @@
 -- Tests that run in order: the verdict is the first that holds, of any list of tests. Assumes nothing.
 use mathlib.Core.Path.{_≡_, refl, sym, ap, _∙_}
 use mathlib.Core.Bool.{Bool, true, false}
-use mathlib.Core.Logic.{_⊎_, inl, inr, ⊎-elim}
+use mathlib.Core.Logic.{inl, inr, ⊎-elim}
 use mathlib.Core.List.{List, [], _∷_, _++_}
 use Prim.Native.Nat.{ℕ}
 use native.Mathlib.Omega.{arith}
 use Rattle.laws.specs.Words.{pick, In}
-use Rattle.laws.proofs.Bools.{true-false}
-use Rattle.rules.specs.Numbers.{Refusal, Test, refuse, Verdict, Passed, Failed, firstOf}
+use Rattle.rules.specs.Numbers.{Refusal, Test, Verdict, Passed, Failed, firstOf}
 use Rattle.rules.specs.Demands.{FirstHolding, Exactly}
 
 pub passed-failed : {X : Type 0} (v : Verdict) (r : Refusal) → v ≡ Passed → v ≡ Failed r → X

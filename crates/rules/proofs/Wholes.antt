@@ -1,7 +1,7 @@
 -- A state is whole exactly when it is that of a list in order; so a start is whole, and every call keeps it so. Assumes nothing.
 use mathlib.Core.Path.{_≡_, refl, sym, ap, ap₂, _∙_, subst, fun-ext}
 use mathlib.Core.Bool.{true}
-use mathlib.Core.Logic.{_⊎_, inl, inr, ⊎-elim}
+use mathlib.Core.Logic.{inl, inr}
 use mathlib.Core.List.{List, [], _∷_, _++_}
 use Prim.Native.Nat.{ℕ, _≤_, _<_}
 use native.Mathlib.Decide.{decLt, decLe}
@@ -10,12 +10,12 @@ use borrow.Author.Tests.{eqb-true}
 use lib.Dec.{eqb}
 use Rattle.laws.specs.Words.{digit, count, In, Sorted, behind, grouped, joined}
 use Rattle.laws.proofs.Counts.{in-those, count-in}
-use Rattle.laws.proofs.Orders.{in-append, in-behind, none-in, sorted-behind, sorted-those}
+use Rattle.laws.proofs.Orders.{in-behind, none-in, sorted-behind, sorted-those}
 use Rattle.laws.proofs.Families.{grouped-none, in-joined, sorted-joined, grouped-joined}
-use Rattle.rules.specs.Numbers.{Passed}
+use Rattle.rules.specs.Numbers.{Refusal, Passed, Failed}
 use Rattle.rules.specs.Table.{Task, most, isTask, verdictOf}
 use Rattle.rules.specs.State.{Running, Nobody, One, Ready, State, deadlineIn, levelIn, listing, waiting, runs, everyone, MayLead, ActiveTask, Whole}
-use Rattle.rules.specs.Calls.{Call, startOf, frontOf, thenDo, stepOf}
+use Rattle.rules.specs.Calls.{startOf, startBy, startedOf, Call, frontOf, thenDo, stepOf}
 use Rattle.rules.specs.Histories.{runOf}
 use Rattle.rules.proofs.Tables.{right-size}
 use Rattle.rules.proofs.Levels.{level-mono}
@@ -155,6 +155,16 @@ unfolding runOf
 whole-run [] s w = w
 whole-run (c ∷ cs) s w = whole-run cs (stepOf s c .state) (whole-step s c w)
 
--- what a refused start hands back "has no tasks, so it is not whole"
-pub refused-not-whole : (n : ℕ) → Whole (startOf [] n) → ⊥
-refused-not-whole n w = omega (arith, right-size [] (w .table))
+-- ---- what a start hands back
+
+pub start-passed : (table : List Task) (n : ℕ) → verdictOf table ≡ Passed → startedOf table n ≡ record { verdict = Passed; state = startOf table n }
+unfolding startedOf
+start-passed table n e = ap (startBy table n) e
+
+-- "a block whose every field is zero or nobody; it has no tasks, so it is not whole"
+pub start-refused : (table : List Task) (n : ℕ) (r : Refusal) → verdictOf table ≡ Failed r → startedOf table n ≡ record { verdict = Failed r; state = startOf [] 0 }
+unfolding startedOf
+start-refused table n r e = ap (startBy table n) e
+
+pub refused-not-whole : Whole (startOf [] 0) → ⊥
+refused-not-whole w = omega (arith, right-size [] (w .table))

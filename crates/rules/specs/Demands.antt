@@ -10,7 +10,7 @@ use lib.Dec.{eqb}
 use lib.ListN.{length, getD}
 use Rattle.laws.specs.Words.{count, In, Ahead, Sorted, grouped}
 use Rattle.rules.specs.Numbers.{Refusal, TableSize, OutOfRange, OutOfOrder, Overload, Test, Verdict, Passed, Failed, firstOf}
-use Rattle.rules.specs.Table.{Task, most, isTask, taskAt, ranged, ordered, loadOf, testsTo3, tableTests, verdictOf}
+use Rattle.rules.specs.Table.{Task, most, taskAt, ranged, ordered, loadOf, testsTo3, tableTests, verdictOf}
 use Rattle.rules.specs.State.{Running, Nobody, One, State, waiting, everyone}
 use Rattle.rules.specs.Calls.{Call, Answer, Accepted, Refused, Margin, startOf, testsOf, stepOf}
 use Rattle.rules.specs.Listing.{listingTests, listedOf}
@@ -90,19 +90,25 @@ pub record Earliest (jobs : List Job) (k : ℕ) : Type 0 where
   pub first : (j : Job) → In j jobs → (j ≡ job) ⊎ (before job j ≡ true)
 
 pub record Demand2 (table : List Task) (s : State) (v : Seen) : Type 0 where
+  -- nobody runs exactly when no job is unfinished; else the running job is the earliest
   pub nobody : (s .ready .running ≡ Nobody) ↔ (v .jobs ≡ [])
   pub running : (k : ℕ) → s .ready .running ≡ One k → Earliest (v .jobs) k
+  -- each unfinished job runs or waits, once
   pub once : (j : Job) → In j (v .jobs) → count (eqb (j .task)) (everyone (s .ready)) ≡ 1
+  -- the listing names exactly the others, in the order; list l holds those of them whose level is l at this moment, in the order
   pub waiting : waiting s ≡ tasksOf (others v)
   pub lists : (l : ℕ) → s .ready .lists l ≡ tasksOf (grouped (levelSeen table v) (others v) l)
+  -- that order: the same jobs, whatever one counts, each before all behind it
+  pub same : (p : Job → Bool) → count p (unfinished v) ≡ count p (v .jobs)
   pub order : Sorted (λ a b. before a b ≡ true) (unfinished v)
-  -- of two with equal deadlines, also where both were released in one tick, the one released by the earlier call stands ahead
+  -- of two with equal deadlines, also of two released in one tick, the one whose release call came first stands ahead
   pub equals : (a b : Job) → In a (v .jobs) → In b (v .jobs) → a .deadline ≡ b .deadline → a .call < b .call → Ahead (a .task) (b .task) (everyone (s .ready))
 
 -- ---- 3. "From a start, through any sequence of calls, refused ones included: each accepted call reports as moves exactly the number of
 -- jobs, waiting when it came, whose level is lower at the new time than at the old. Refused calls report none. The moves reported since
 -- the start never total more than the sum, over accepted releases, of the released task's first level less one."
 
+-- (A refusal holds no moves: `movesIn` of Calls counts it as 0.)
 pub record Demand3 (table : List Task) (reading : ℕ) (calls : List Call) : Type 0 where
   pub moves : (c : Call) (r : Running) (m : ℕ) (g : Margin) → answerTo table reading calls c ≡ Accepted r m g → m ≡ fallsOf table (seen table reading calls) c
   pub bound : totalOf (eventsOf (startOf table reading) calls) ≤ boundOf table (eventsOf (startOf table reading) calls)

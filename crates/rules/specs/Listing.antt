@@ -1,9 +1,9 @@
 -- "The listing".
 use Prim.Native.Nat.{ℕ, _*_}
-use mathlib.Core.List.{List, [], _∷_, _++_}
+use mathlib.Core.List.{List, [], _∷_}
 use lib.Dec.{ltb}
-use lib.ListN.{length, drop}
-use Rattle.laws.specs.Words.{joined}
+use lib.ListN.{length}
+use Rattle.laws.specs.Words.{joined, written}
 use Rattle.rules.specs.Numbers.{BufferTooShort, Test, refuse, Verdict, Passed, Failed, firstOf}
 use Rattle.rules.specs.Table.{most}
 use Rattle.rules.specs.State.{State, waiting}
@@ -17,15 +17,12 @@ pairsOf l (k ∷ q) = l ∷ k ∷ pairsOf l q
 unfoldable pub bytesOf : (ℕ → List ℕ) → List ℕ
 bytesOf lists = joined (λ l. pairsOf l (lists l)) most 1
 
--- "The listing writes the waiting jobs into a lent buffer", "and bytes behind that stay as they were"
-abbrev pub written : List ℕ → List ℕ → List ℕ
-written bytes buffer = bytes ++ drop (length bytes) buffer
-
 -- "The listing tests [15, then] 11": "It uses twice the number waiting"
 abbrev pub listingTests : State → List ℕ → List Test
 listingTests s buffer = refuse BufferTooShort (ltb (length buffer) (2 * length (waiting s))) ∷ []
 
--- "It returns the number waiting"; a refused listing "writes nothing"
+-- "The listing writes the waiting jobs into a lent buffer .. and bytes behind that stay as they were. It returns the number waiting"; a
+-- refused listing "writes nothing"
 pub record Listed : Type 0 where
   pub verdict : Verdict
   pub waiting : ℕ
