@@ -7,12 +7,12 @@ use borrow.Author.Tests.{ltb-false}
 use lib.ListN.{length, getD, length-append}
 use Rattle.laws.specs.Words.{joined}
 use Rattle.laws.proofs.Buffers.{written-size, written-behind}
-use Rattle.rules.specs.Numbers.{Refusal, Verdict, Passed, Failed, firstOf}
+use Rattle.rules.specs.Numbers.{Refusal, Passed, Failed, firstOf}
 use Rattle.rules.specs.Table.{most}
 use Rattle.rules.specs.State.{State, listing, waiting}
 use Rattle.rules.specs.Listing.{pairsOf, bytesOf, listingTests, Listed, listedBy, listedOf}
 use Rattle.rules.specs.Demands.{Demand1Listing}
-use Rattle.rules.proofs.Verdicts.{passed-failed, pass, exactly}
+use Rattle.rules.proofs.Verdicts.{passed-failed, verdict-cases, pass, exactly}
 
 -- ---- "It uses twice the number waiting"
 
@@ -47,11 +47,7 @@ module _ (s : State) (buffer : List ℕ) where
   listed-cases : (P : Listed → Type 0) → (firstOf (listingTests s buffer) ≡ Passed → P (listedBy s buffer Passed))
       → ((r : Refusal) → firstOf (listingTests s buffer) ≡ Failed r → P (listedBy s buffer (Failed r))) → P (listedOf s buffer)
   unfolding listedOf
-  listed-cases P p f = go (firstOf (listingTests s buffer)) refl
-    where
-      go : (v : Verdict) → firstOf (listingTests s buffer) ≡ v → P (listedBy s buffer v)
-      go Passed e = p e
-      go (Failed r) e = f r e
+  listed-cases P p f = verdict-cases (λ v. P (listedBy s buffer v)) (firstOf (listingTests s buffer)) p f
 
   passed-fits : firstOf (listingTests s buffer) ≡ Passed → length bytes ≤ length buffer
   passed-fits e =

@@ -7,12 +7,12 @@ use native.Mathlib.Omega.{arith}
 use borrow.Author.Tests.{eqb-true, ltb-false, not-false}
 use Rattle.laws.specs.Words.{behind, inserted}
 use Rattle.laws.proofs.Bools.{true-false}
-use Rattle.rules.specs.Numbers.{Refusal, CounterWentBack, ClockFull, Test, refuse, Verdict, Passed, Failed, firstOf}
+use Rattle.rules.specs.Numbers.{Refusal, CounterWentBack, ClockFull, Test, refuse, Passed, Failed, firstOf}
 use Rattle.rules.specs.Table.{isTask}
 use Rattle.rules.specs.Clock.{lastTick, elapsedOf, wentBack, timeAfter, tooFar}
 use Rattle.rules.specs.State.{Running, Nobody, One, State, deadlineOf}
 use Rattle.rules.specs.Calls.{Call, Release, Done, Clock, readingOf, timeAt, isRunning, clockTests, testsOf, moved, releasedNow, thenDo, Step, stepBy, stepOf}
-use Rattle.rules.proofs.Verdicts.{pass}
+use Rattle.rules.proofs.Verdicts.{verdict-cases, pass}
 use Rattle.rules.proofs.Ready.{sooner}
 use Rattle.rules.proofs.Queues.{Queue, moved-queue, begun-queue, ended-queue}
 
@@ -20,11 +20,7 @@ use Rattle.rules.proofs.Queues.{Queue, moved-queue, begun-queue, ended-
 pub step-cases : (P : Step → Type 0) (s : State) (c : Call) → ((r : Refusal) → firstOf (testsOf s c) ≡ Failed r → P (stepBy s c (Failed r)))
     → (firstOf (testsOf s c) ≡ Passed → P (stepBy s c Passed)) → P (stepOf s c)
 unfolding stepOf
-step-cases P s c refused accepted = go (firstOf (testsOf s c)) refl
-  where
-    go : (v : Verdict) → firstOf (testsOf s c) ≡ v → P (stepBy s c v)
-    go Passed e = accepted e
-    go (Failed r) e = refused r e
+step-cases P s c refused accepted = verdict-cases (λ v. P (stepBy s c v)) (firstOf (testsOf s c)) accepted refused
 
 abbrev pub timeOfCall : State → Call → ℕ
 timeOfCall s c = timeAt s (readingOf c)

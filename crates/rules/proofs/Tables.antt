@@ -10,11 +10,11 @@ use lib.Dec.{leb}
 use lib.ListN.{length, getD}
 use Rattle.laws.specs.Words.{In}
 use Rattle.laws.proofs.Bools.{both-true, both-false, either-false}
-use Rattle.rules.specs.Numbers.{Refusal, TableSize, OutOfRange, OutOfOrder, Overload, Test, refuse, Verdict, Passed, Failed, firstOf}
+use Rattle.rules.specs.Numbers.{Refusal, TableSize, OutOfRange, OutOfOrder, Overload, Test, refuse, Passed, Failed, firstOf}
 use Rattle.rules.specs.Numbers.{CounterWentBack, ClockFull, NoSuchTask, TaskActive, TooSoon, NotRunning, BufferTooShort}
 use Rattle.rules.specs.Table.{Task, most, taskAt, deadlines, rightSize, inRange, ranged, ordered, loadOf, tasksTests, testsTo3, tableTests, verdictOf}
 use Rattle.rules.specs.Demands.{FirstBad, Demand1Table}
-use Rattle.rules.proofs.Verdicts.{passed-failed, failed-same, pass, first-append, first-append-failed, exactly}
+use Rattle.rules.proofs.Verdicts.{passed-failed, failed-same, verdict-cases, pass, first-append, first-append-failed, exactly}
 
 -- ---- what passing says
 
@@ -29,11 +29,8 @@ unfolding verdictOf
 to-3-failed table r e = first-append-failed (testsTo3 table) _ r e
 
 pub sound-to-3 : (table : List Task) → verdictOf table ≡ Passed → firstOf (testsTo3 table) ≡ Passed
-sound-to-3 table e = go (firstOf (testsTo3 table)) refl
-  where
-    go : (v : Verdict) → firstOf (testsTo3 table) ≡ v → v ≡ Passed
-    go Passed h = refl
-    go (Failed r) h = passed-failed (verdictOf table) r e (to-3-failed table r h)
+sound-to-3 table e =
+    verdict-cases (λ v. v ≡ Passed) (firstOf (testsTo3 table)) (λ h. refl) (λ r h. passed-failed (verdictOf table) r e (to-3-failed table r h))
 
 ranged-positive : (x : Task) → ranged x ≡ true → 1 ≤ x .d
 ranged-positive x e =
@@ -161,16 +158,13 @@ module _ (table : List Task) where
 
   why : (r : Refusal) → verdictOf table ≡ Failed r → Why table r
   unfolding verdictOf
-  why r e = go (firstOf (testsTo3 table)) refl
-    where
-      go : (v : Verdict) → firstOf (testsTo3 table) ≡ v → Why table r
-      go Passed p =
-          asked-failed (Why table) Overload r (leb (loadOf table) 1000) [] (λ f. (p, leb-false _ _ f)) (λ t. none-failed r)
-          (sym (first-append (testsTo3 table) _ p) ∙ e)
-      go (Failed q) f =
-          asked-failed (Why table) TableSize r (rightSize table) _ (wrong-size table)
-          (λ s. tasks-failed (Why table) 1 table r (λ n i c l g. (first-bad Unranged n i s c l g, first-bad Unordered n i s c l g)))
-          (f ∙ sym (to-3-failed table q f) ∙ e)
+  why r e =
+      verdict-cases (λ v. Why table r) (firstOf (testsTo3 table))
+      (λ p. asked-failed (Why table) Overload r (leb (loadOf table) 1000) [] (λ f. (p, leb-false _ _ f)) (λ t. none-failed r)
+      (sym (first-append (testsTo3 table) _ p) ∙ e))
+      (λ q f. asked-failed (Why table) TableSize r (rightSize table) _ (wrong-size table)
+      (λ s. tasks-failed (Why table) 1 table r (λ n i c l g. (first-bad Unranged n i s c l g, first-bad Unordered n i s c l g)))
+      (f ∙ sym (to-3-failed table q f) ∙ e))
 
   -- a table is refused with what the tests of its first bad task find
   bad-failed : (Bad : Task → Type 0) (r : Refusal) (k : ℕ) → ((x : Task) (rest : List Test) → Bad x → firstOf (taskTests k x rest) ≡ Failed r)

@@ -15,6 +15,11 @@ passed-failed v r p f = let z : _≡_ {A = ℕ} 0 1 = cc in let n : ⊥ = omega 
 pub failed-same : (r q : Refusal) → Failed r ≡ Failed q → r ≡ q
 failed-same r q e = cc
 
+-- what holds of a verdict, if it holds of one passed and of one failed
+pub verdict-cases : (P : Verdict → Type 0) (v : Verdict) → (v ≡ Passed → P Passed) → ((r : Refusal) → v ≡ Failed r → P (Failed r)) → P v
+verdict-cases P Passed p f = p refl
+verdict-cases P (Failed r) p f = f r refl
+
 -- one test: it holds, or the rest decides
 pub first-cons : (x : Test) (xs : List Test) → firstOf (x ∷ xs) ≡ pick (x .holds) (Failed (x .refusal)) (firstOf xs)
 unfolding firstOf
