@@ -1,5 +1,5 @@
 -- Demand 1 of the listing, and how much of the buffer it uses. Assumes nothing.
-use mathlib.Core.Path.{_≡_, refl, sym}
+use mathlib.Core.Path.{_≡_, refl}
 use mathlib.Core.List.{List, [], _∷_}
 use Prim.Native.Nat.{ℕ, zero, suc, _*_, _≤_}
 use native.Mathlib.Omega.{arith}
@@ -11,7 +11,7 @@ use Rattle.rules.specs.Numbers.{Refusal, Passed, Failed, firstOf}
 use Rattle.rules.specs.Table.{most}
 use Rattle.rules.specs.State.{State, listing, waiting}
 use Rattle.rules.specs.Listing.{pairsOf, bytesOf, listingTests, Listed, listedBy, listedOf}
-use Rattle.rules.specs.Demands.{Demand1Listing}
+use Rattle.rules.specs.Demands.{Exactly, Demand1Listing}
 use Rattle.rules.proofs.Verdicts.{passed-failed, verdict-cases, pass, exactly}
 
 -- ---- "It uses twice the number waiting"
@@ -57,7 +57,9 @@ module _ (s : State) (buffer : List ℕ) where
   pub demand-1-listing : Demand1Listing s buffer
   demand-1-listing =
       record {
-        exactly = rw (listed-cases (λ x. x .verdict ≡ firstOf (listingTests s buffer)) (λ e. sym e) (λ r e. sym e)) (exactly (listingTests s buffer));
+        exactly =
+            listed-cases (λ x. Exactly (listingTests s buffer) (x .verdict)) (exactly (listingTests s buffer) Passed)
+            (λ r. exactly (listingTests s buffer) (Failed r));
         unchanged = λ r. listed-cases (λ x. x .verdict ≡ Failed r → x .buffer ≡ buffer) (λ e f. passed-failed Passed r refl f) (λ q e f. refl);
         size = listed-cases (λ x. length (x .buffer) ≡ length buffer) (λ e. written-size bytes buffer (passed-fits e)) (λ r e. refl);
         behind =

@@ -179,7 +179,7 @@ module _ (table : List Task) where
   unfolding verdictOf
   demand-1-table =
       record {
-        exactly = exactly (tableTests table);
+        exactly = exactly (tableTests table) (verdictOf table) refl;
         number-1 = (why TableSize, λ h. to-3-failed table TableSize (asked-false TableSize (rightSize table) _ (size-wrong table h)));
         number-2 = λ k. (why (OutOfRange k), bad-failed Unranged (OutOfRange k) k (λ x rest f. asked-false (OutOfRange k) (ranged x) _ f));
         number-3 =

@@ -1,18 +1,18 @@
 -- THE THREE DEMANDS, of every table that passes its tests, every start reading and every list of calls. Assumes nothing.
 use mathlib.Core.Path.{_≡_, refl, sym, ap, ap₂, _∙_, subst}
-use mathlib.Core.List.{List, []}
+use mathlib.Core.List.{List, [], _∷_}
 use Prim.Native.Nat.{ℕ}
 use native.Mathlib.Omega.{arith}
 use Rattle.laws.specs.Words.{sum, In}
 use Rattle.laws.proofs.Orders.{inOrder-in}
-use Rattle.rules.specs.Numbers.{Refusal, Passed}
+use Rattle.rules.specs.Numbers.{Refusal, Test, Passed, Failed, firstOf}
 use Rattle.rules.specs.Table.{Task, verdictOf}
 use Rattle.rules.specs.Levels.{remainingOf}
 use Rattle.rules.specs.State.{Running, State, deadlineIn}
-use Rattle.rules.specs.Calls.{Call, Done, Ticks, Answer, Accepted, Refused, Margin, startOf, movesOf, testsOf, stepOf}
+use Rattle.rules.specs.Calls.{Call, Done, Ticks, Answer, taskTest, plannedBy, plannedOf, Accepted, Refused, Margin, startOf, movesOf, testsOf, stepOf}
 use Rattle.rules.specs.Histories.{Job, Seen, seenAtStart, timeSeen, before, called, fallsOf}
 use Rattle.rules.specs.Demands.{Exactly, verdictIn, Demand1, Demand2, Demand3, Demands, stateAfter, seen, answerTo}
-use Rattle.rules.proofs.Verdicts.{exactly}
+use Rattle.rules.proofs.Verdicts.{verdict-cases, exactly}
 use Rattle.rules.proofs.Steps.{step-cases, timeOfCall}
 use Rattle.rules.proofs.Bound.{bounded-from}
 use Rattle.rules.proofs.Agreement.{Agree, start-queue, start-agrees, same-time, run-table, run-agrees}
@@ -27,10 +27,16 @@ pub demand-1 : (s : State) (c : Call) → Demand1 s c
 demand-1 s c =
     record {
       exactly =
-          step-cases (λ x. Exactly (testsOf s c) (verdictIn (x .answer))) s c (λ r e. subst (Exactly (testsOf s c)) e (exactly (testsOf s c)))
-          (λ e. subst (Exactly (testsOf s c)) e (exactly (testsOf s c)));
+          step-cases (λ x. Exactly (testsOf s c) (verdictIn (x .answer))) s c (λ r. exactly (testsOf s c) (Failed r)) (exactly (testsOf s c) Passed);
       unchanged = λ r. step-cases (λ x. x .answer ≡ Refused r → x .state ≡ s) s c (λ q e h. refl) (λ e h. accepted-refused refl h);
     }
+
+-- of a plan asked of any state
+pub plan-exactly : (s : State) (k : ℕ) → Exactly (taskTest (s .table) k ∷ []) (plannedOf s k .verdict)
+unfolding plannedOf
+plan-exactly s k =
+    let tests : List Test = taskTest (s .table) k ∷ [] in
+    verdict-cases (λ v. Exactly tests (plannedBy s k v .verdict)) (firstOf tests) (exactly tests Passed) (λ r. exactly tests (Failed r))
 
 module _ {r r′ : Running} {m m′ : ℕ} {g g′ : Margin} (e : Accepted r m g ≡ Accepted r′ m′ g′) where
   accepted-runs : r ≡ r′

@@ -1,5 +1,5 @@
 -- Tests that run in order: the verdict is the first that holds, of any list of tests. Assumes nothing.
-use mathlib.Core.Path.{_≡_, refl, sym, ap, _∙_}
+use mathlib.Core.Path.{_≡_, refl, sym, ap, _∙_, subst}
 use mathlib.Core.Bool.{Bool, true, false}
 use mathlib.Core.Logic.{inl, inr, ⊎-elim}
 use mathlib.Core.List.{List, [], _∷_, _++_}
@@ -88,5 +88,5 @@ first-holding xs r w =
     ∙ ap (λ (b : Bool). pick b (Failed (w .test .refusal)) (firstOf (w .later))) (w .holds) ∙ ap Failed (w .refusal)
 
 -- each refusal exactly when it is the first, and accepted exactly when no test holds
-pub exactly : (xs : List Test) → Exactly xs (firstOf xs)
-exactly xs = record { refused = λ r. (holding xs r, first-holding xs r); accepted = (none-holds xs, all-pass xs) }
+pub exactly : (xs : List Test) (v : Verdict) → firstOf xs ≡ v → Exactly xs v
+exactly xs v e = subst (Exactly xs) e (record { refused = λ r. (holding xs r, first-holding xs r); accepted = (none-holds xs, all-pass xs) })

@@ -1,4 +1,4 @@
--- "What a call does": start, the three calls, their tests in the paper's order, their moves and margins.
+-- "What a call does": start, the three calls, their tests in the paper's order, their moves and margins; and a plan asked of a block.
 use Prim.Native.Nat.{ℕ, zero, suc, _+_}
 use mathlib.Core.Bool.{Bool, true, false, not}
 use mathlib.Core.List.{List, [], _∷_, _++_}
@@ -7,7 +7,7 @@ use lib.IntN.{ℤ}
 use Rattle.laws.specs.Words.{pick, count, behind, put, grouped}
 use Rattle.rules.specs.Numbers.{Refusal, CounterWentBack, ClockFull, NoSuchTask, TaskActive, TooSoon, NotRunning, Test, refuse, Verdict, Passed, Failed, firstOf}
 use Rattle.rules.specs.Table.{Task, most, taskAt, isTask, verdictOf}
-use Rattle.rules.specs.Levels.{remainingOf}
+use Rattle.rules.specs.Levels.{remainingOf, Point, planOf}
 use Rattle.rules.specs.Clock.{elapsedOf, wentBack, timeAfter, tooFar}
 use Rattle.rules.specs.State.{Running, Nobody, One, Last, Never, At, Ready, State, levelsOf, deadlineIn, levelIn, listing, waiting}
 
@@ -220,3 +220,17 @@ stepBy s c (Failed r) = record { answer = Refused r; state = s }
 
 unfoldable pub stepOf : State → Call → Step
 stepOf s c = stepBy s c (firstOf (testsOf s c))
+
+-- ---- a task's plan, asked of a block
+
+pub record Planned : Type 0 where
+  pub verdict : Verdict
+  pub points : List Point
+
+-- "a task's plan, asked of a block, [15, then] 7"
+abbrev pub plannedBy : State → ℕ → Verdict → Planned
+plannedBy s k Passed = record { verdict = Passed; points = planOf (s .table) k }
+plannedBy s k (Failed r) = record { verdict = Failed r; points = [] }
+
+unfoldable pub plannedOf : State → ℕ → Planned
+plannedOf s k = plannedBy s k (firstOf (taskTest (s .table) k ∷ []))
