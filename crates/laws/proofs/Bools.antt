@@ -1,9 +1,10 @@
 -- Tests and their digits. Assumes nothing.
 use mathlib.Core.Path.{_≡_, refl, sym, ap}
 use mathlib.Core.Bool.{Bool, true, false, _&&_}
-use mathlib.Core.Logic.{_⊎_, inl, inr}
 use Prim.Native.Nat.{ℕ, _≤_}
 use native.Mathlib.Omega.{arith}
+use borrow.Author.Tests.{leb-true, le-leb}
+use lib.Dec.{leb}
 use Rattle.laws.specs.Words.{digit}
 
 pub digit-le : (b : Bool) → digit b ≤ 1
@@ -31,11 +32,21 @@ pub both-true : (a b : Bool) → a && b ≡ true → (a ≡ true) × (b ≡ true
 both-true true b e = (refl, e)
 both-true false b e = true-false false e refl
 
-pub both-false : (a b : Bool) → a && b ≡ false → (a ≡ false) ⊎ (b ≡ false)
-both-false true b e = inr e
-both-false false b e = inl refl
+-- two orders at once
+pub both-le : {a b c d : ℕ} → leb a b && leb c d ≡ true → (a ≤ b) × (c ≤ d)
+both-le e = let h = both-true _ _ e in (leb-true _ _ (h .0), leb-true _ _ (h .1))
 
-pub either-false : (a b : Bool) → (a ≡ false) ⊎ (b ≡ false) → a && b ≡ false
-either-false true b (inl e) = true-false true refl e
-either-false true b (inr e) = e
-either-false false b h = refl
+pub le-both : {a b c d : ℕ} → (a ≤ b) × (c ≤ d) → leb a b && leb c d ≡ true
+le-both {a} {b} {c} {d} h = rw (le-leb a b (h .0), le-leb c d (h .1))
+
+-- a test that passes exactly when A holds
+module _ {A : Type 0} (b : Bool) where
+  pub false-not : (A → b ≡ true) → b ≡ false → A → ⊥
+  false-not h f a = true-false b (h a) f
+
+  pub not-false-test : (b ≡ true → A) → (A → ⊥) → b ≡ false
+  not-false-test h g = go b refl
+    where
+      go : (t : Bool) → b ≡ t → t ≡ false
+      go true e = absurd (g (h e))
+      go false e = refl

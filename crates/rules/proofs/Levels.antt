@@ -5,11 +5,11 @@ use mathlib.Core.List.{List}
 use Prim.Native.Nat.{ℕ, _+_, _-_, _≤_, _<_}
 use native.Mathlib.Decide.{decLt}
 use native.Mathlib.Omega.{arith}
-use borrow.Author.Tests.{ltb-true, lt-ltb, le-ltb, leb-true}
-use lib.Dec.{ltb, leb}
+use borrow.Author.Tests.{ltb-true, lt-ltb, le-ltb}
+use lib.Dec.{ltb}
 use lib.ListN.{length, length-map}
 use Rattle.laws.specs.Words.{count, In}
-use Rattle.laws.proofs.Bools.{same-test, both-true}
+use Rattle.laws.proofs.Bools.{same-test, both-le}
 use Rattle.laws.proofs.Counts.{count-same, count-mono, count-less, count-none, count-all}
 use Rattle.laws.proofs.Orders.{in-map, getD-in}
 use Rattle.laws.proofs.Signed.{below-less}
@@ -63,9 +63,7 @@ level-first table k b = level-below table (b + taskAt table k .d) b (taskAt tabl
 -- ---- tasks of the table
 
 pub task-place : (table : List Task) (k : ℕ) → isTask table k ≡ true → (1 ≤ k) × (k ≤ length table)
-task-place table k e =
-    let h = both-true (leb 1 k) (leb k (length table)) e in
-    (leb-true _ _ (h .0), leb-true _ _ (h .1))
+task-place table k e = both-le e
 
 module _ (table : List Task) (k : ℕ) (task : isTask table k ≡ true) where
   pub deadline-in : In (taskAt table k .d) (deadlines table)

@@ -1,6 +1,7 @@
 -- What is proved of the rules. Read Theorems first: the demands. Document003 has the paper's own lemmas, Cases and Example what computes.
 pub mod Verdicts
 pub mod Tables
+pub mod Refusals
 pub mod Levels
 pub mod Plans
 pub mod Ready

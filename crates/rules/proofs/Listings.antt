@@ -1,18 +1,19 @@
 -- Demand 1 of the listing, and how much of the buffer it uses. Assumes nothing.
-use mathlib.Core.Path.{_≡_, refl}
+use mathlib.Core.Path.{_≡_, refl, sym, _∙_}
 use mathlib.Core.List.{List, [], _∷_}
-use Prim.Native.Nat.{ℕ, zero, suc, _*_, _≤_}
+use Prim.Native.Nat.{ℕ, zero, suc, _*_, _≤_, _<_}
 use native.Mathlib.Omega.{arith}
-use borrow.Author.Tests.{ltb-false}
+use lib.Dec.{ltb}
 use lib.ListN.{length, getD, length-append}
 use Rattle.laws.specs.Words.{joined}
 use Rattle.laws.proofs.Buffers.{written-size, written-behind}
-use Rattle.rules.specs.Numbers.{Refusal, Passed, Failed, firstOf}
+use Rattle.rules.specs.Numbers.{Refusal, BufferTooShort, refuse, Passed, Failed, firstOf}
 use Rattle.rules.specs.Table.{most}
 use Rattle.rules.specs.State.{State, listing, waiting}
 use Rattle.rules.specs.Listing.{pairsOf, bytesOf, listingTests, Listed, listedBy, listedOf}
+use Rattle.rules.specs.Refusals.{ListingNumber}
 use Rattle.rules.specs.Demands.{Exactly, Demand1Listing}
-use Rattle.rules.proofs.Verdicts.{passed-failed, verdict-cases, pass, exactly}
+use Rattle.rules.proofs.Verdicts.{passed-failed, verdict-cases, none-failed, Asks, asks-less, asks-holds, asks-passed, asks-failed, exactly}
 
 -- ---- "It uses twice the number waiting"
 
@@ -49,10 +50,21 @@ module _ (s : State) (buffer : List ℕ) where
   unfolding listedOf
   listed-cases P p f = verdict-cases (λ v. P (listedBy s buffer v)) (firstOf (listingTests s buffer)) p f
 
+  short-asked : Asks (refuse BufferTooShort (ltb (length buffer) (2 * length (waiting s)))) (2 * length (waiting s) ≤ length buffer) (length buffer < 2 * length (waiting s))
+  short-asked = asks-less BufferTooShort (length buffer) (2 * length (waiting s))
+
   passed-fits : firstOf (listingTests s buffer) ≡ Passed → length bytes ≤ length buffer
-  passed-fits e =
-      let h : 2 * length (waiting s) ≤ length buffer = ltb-false _ _ (pass _ _ e .0) in
-      omega (arith, bytes-twice (s .ready .lists))
+  passed-fits e = omega (arith, asks-passed short-asked [] e, bytes-twice (s .ready .lists))
+
+  listing-number : ListingNumber s buffer
+  listing-number =
+      record {
+        number-11 = (
+          listed-cases (λ x. x .verdict ≡ Failed BufferTooShort → length buffer < 2 * length (waiting s)) (λ e f. passed-failed Passed BufferTooShort refl f)
+              (λ r e f. asks-failed short-asked [] (λ q. length buffer < 2 * length (waiting s)) r (λ l. l) (λ l. none-failed r) e),
+          λ l. listed-cases (λ x. x .verdict ≡ Failed BufferTooShort) (λ e. passed-failed _ BufferTooShort e (asks-holds short-asked [] l)) (λ r e. sym e ∙ asks-holds short-asked [] l),
+        );
+      }
 
   pub demand-1-listing : Demand1Listing s buffer
   demand-1-listing =
@@ -60,6 +72,7 @@ module _ (s : State) (buffer : List ℕ) where
         exactly =
             listed-cases (λ x. Exactly (listingTests s buffer) (x .verdict)) (exactly (listingTests s buffer) Passed)
             (λ r. exactly (listingTests s buffer) (Failed r));
+        numbers = listing-number;
         unchanged = λ r. listed-cases (λ x. x .verdict ≡ Failed r → x .buffer ≡ buffer) (λ e f. passed-failed Passed r refl f) (λ q e f. refl);
         size = listed-cases (λ x. length (x .buffer) ≡ length buffer) (λ e. written-size bytes buffer (passed-fits e)) (λ r e. refl);
         behind =

@@ -18,7 +18,7 @@ use Rattle.rules.specs.Levels.{levelAt}
 use Rattle.rules.specs.Clock.{lastTick}
 use Rattle.rules.specs.State.{One, Last, At, timeOf, Ready, State, deadlineOf, levelsOf, deadlineIn, levelIn, listing, MayLead}
 use Rattle.rules.specs.Calls.{relevel, enter, frontOf, leave, moved, releasedNow, begun, ended}
-use Rattle.rules.proofs.Tables.{right-size}
+use Rattle.rules.proofs.Tables.{passed-to-3}
 use Rattle.rules.proofs.Levels.{level-low, level-high, lower-earlier}
 use Rattle.rules.proofs.Ranges.{rising-levels}
 use Rattle.rules.proofs.Ready.{sooner, Rising, Ranged, readyOf, listing-grouped, leave-ready, enter-ready, relevel-ready, ready-same}
@@ -49,7 +49,7 @@ module _ (s : State) (q : List ℕ) (w : Queue s q) where
   ranged-behind time h k m =
       let a : timeOf (s .released k) ≤ s .clock = w .past k in
       let b = level-high (s .table) k (w .tasks k (member-active k (in-behind k q m))) (deadlineIn s k) time (omega arith) in
-      (level-low (s .table) (deadlineIn s k) time, omega (arith, right-size (s .table) (w .table)))
+      (level-low (s .table) (deadlineIn s k) time, omega (arith, passed-to-3 (s .table) (w .table)))
 
   pub queue-listing : listing (s .ready .lists) ≡ behind q
   queue-listing =

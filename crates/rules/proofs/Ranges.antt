@@ -6,7 +6,7 @@ use Rattle.laws.specs.Words.{In, Sorted}
 use Rattle.laws.proofs.Orders.{sorted-mono}
 use Rattle.rules.specs.Table.{Task, most}
 use Rattle.rules.specs.State.{Last, State, deadlineOf, levelsOf, deadlineIn, MayLead, Whole}
-use Rattle.rules.proofs.Tables.{right-size}
+use Rattle.rules.proofs.Tables.{passed-to-3}
 use Rattle.rules.proofs.Levels.{level-mono, level-low, level-high}
 
 -- a list where somebody waits is that of a level
@@ -17,7 +17,7 @@ list-range s w l k m =
       w .place l k m,
       level-low (s .table) (deadlineIn s k) (s .clock),
       level-high (s .table) k (w .waiter l k m .task) (deadlineIn s k) (s .clock) (omega (arith, w .past k)),
-      right-size (s .table) (w .table),
+      passed-to-3 (s .table) (w .table),
     )
 
 -- a list in order of deadlines is in order of levels at any time

@@ -40,7 +40,7 @@ module _ {B : Type 0} (W : B → Type 0) (view : B → State) (next : B → Call
 
   -- demand 1, of any whole block
   pub block-exactly : (b : B) (c : Call) → W b → Exactly (testsOf (view b) c) (verdictIn (answer b c))
-  block-exactly b c w = rw (same-answer b c w) (demand-1 (view b) c .exactly)
+  block-exactly b c w = rw (same-answer b c w) (demand-1 (view b) .exactly c)
 
   -- demands 2 and 3, of a block that a start gave
   module _ (table : List Task) (n : ℕ) (sound : verdictOf table ≡ Passed) (b : B) (whole : W b) (start : view b ≡ startOf table n) (cs : List Call) where

@@ -1,18 +1,18 @@
 -- One call: it is refused, or it has passed its tests; and what it then makes of the list. Assumes nothing.
-use mathlib.Core.Path.{_≡_, refl, ap}
+use mathlib.Core.Path.{_≡_, refl}
 use mathlib.Core.Bool.{true, false}
-use mathlib.Core.List.{List, [], _∷_, _++_}
+use mathlib.Core.List.{List}
 use Prim.Native.Nat.{ℕ, _≤_}
 use native.Mathlib.Omega.{arith}
-use borrow.Author.Tests.{eqb-true, ltb-false, not-false}
 use Rattle.laws.specs.Words.{behind, inserted}
-use Rattle.laws.proofs.Bools.{true-false}
-use Rattle.rules.specs.Numbers.{Refusal, CounterWentBack, ClockFull, Test, refuse, Passed, Failed, firstOf}
+use Rattle.laws.proofs.Bools.{le-both}
+use Rattle.rules.specs.Numbers.{Refusal, Passed, Failed, firstOf}
 use Rattle.rules.specs.Table.{isTask}
-use Rattle.rules.specs.Clock.{lastTick, elapsedOf, wentBack, timeAfter, tooFar}
-use Rattle.rules.specs.State.{Running, Nobody, One, State, deadlineOf}
-use Rattle.rules.specs.Calls.{Call, Release, Done, Clock, readingOf, timeAt, isRunning, clockTests, testsOf, moved, releasedNow, thenDo, Step, stepBy, stepOf}
-use Rattle.rules.proofs.Verdicts.{verdict-cases, pass}
+use Rattle.rules.specs.Clock.{lastTick, timeAfter}
+use Rattle.rules.specs.State.{One, State, deadlineOf}
+use Rattle.rules.specs.Calls.{Call, Release, Done, Clock, readingOf, timeAt, testsOf, moved, releasedNow, thenDo, Step, stepBy, stepOf}
+use Rattle.rules.proofs.Verdicts.{verdict-cases}
+use Rattle.rules.proofs.Refusals.{call-passed, release-passed, done-passed}
 use Rattle.rules.proofs.Ready.{sooner}
 use Rattle.rules.proofs.Queues.{Queue, moved-queue, begun-queue, ended-queue}
 
@@ -35,37 +35,19 @@ pub record Timely (s : State) (n : ℕ) : Type 0 where
   pub later : s .clock ≤ timeAt s n
   pub high : timeAt s n ≤ lastTick
 
-timely : (s : State) (n : ℕ) (xs : List Test) → firstOf (clockTests (s .clock) (s .reading) n ++ xs) ≡ Passed → Timely s n × (firstOf xs ≡ Passed)
-unfolding timeAfter tooFar
-timely s n xs e =
-    let full : Test = refuse ClockFull (tooFar (timeAfter (s .clock) (s .reading) n)) in
-    let a = pass (refuse CounterWentBack (wentBack (elapsedOf n (s .reading)))) (full ∷ xs) e in
-    let b = pass full xs (a .1) in
-    (record { later = omega arith; high = ltb-false _ _ (b .0) }, b .1)
-
 pub call-timely : (s : State) (c : Call) → firstOf (testsOf s c) ≡ Passed → Timely s (readingOf c)
-unfolding testsOf
-call-timely s (Release n k) e = timely s n _ e .0
-call-timely s (Done n k) e = timely s n _ e .0
-call-timely s (Clock n) e = timely s n [] e .0
+unfolding timeAfter
+call-timely s c e = record { later = omega arith; high = call-passed s c e .0 .1 }
 
 pub record MayRelease (s : State) (k : ℕ) : Type 0 where
   pub task : isTask (s .table) k ≡ true
   pub idle : s .active k ≡ false
 
 pub may-release : (s : State) (n k : ℕ) → firstOf (testsOf s (Release n k)) ≡ Passed → MayRelease s k
-unfolding testsOf
-may-release s n k e =
-    let a = pass _ _ (timely s n _ e .1) in
-    record { task = not-false _ (a .0); idle = pass _ _ (a .1) .0 }
-
-runs-one : (r : Running) (k : ℕ) → isRunning r k ≡ true → r ≡ One k
-runs-one Nobody k e = true-false false e refl
-runs-one (One j) k e = ap One (eqb-true j k e)
+may-release s n k e = let h = release-passed s n k e in record { task = le-both (h .1); idle = h .2 }
 
 pub may-end : (s : State) (n k : ℕ) → firstOf (testsOf s (Done n k)) ≡ Passed → s .ready .running ≡ One k
-unfolding testsOf
-may-end s n k e = runs-one (s .ready .running) k (not-false _ (pass _ _ (pass _ _ (timely s n _ e .1) .1) .0))
+may-end s n k e = done-passed s n k e .2
 
 -- ---- what it makes of the list
 

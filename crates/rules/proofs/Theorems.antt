@@ -5,14 +5,15 @@ use Prim.Native.Nat.{ℕ}
 use native.Mathlib.Omega.{arith}
 use Rattle.laws.specs.Words.{sum, In}
 use Rattle.laws.proofs.Orders.{inOrder-in}
-use Rattle.rules.specs.Numbers.{Refusal, Test, Passed, Failed, firstOf}
+use Rattle.rules.specs.Numbers.{Test, Passed, Failed, firstOf}
 use Rattle.rules.specs.Table.{Task, verdictOf}
 use Rattle.rules.specs.Levels.{remainingOf}
 use Rattle.rules.specs.State.{Running, State, deadlineIn}
-use Rattle.rules.specs.Calls.{Call, Done, Ticks, Answer, taskTest, plannedBy, plannedOf, Accepted, Refused, Margin, startOf, movesOf, testsOf, stepOf}
+use Rattle.rules.specs.Calls.{Call, Done, Ticks, taskTest, plannedBy, plannedOf, Accepted, Refused, Margin, startOf, movesOf, testsOf, stepOf}
 use Rattle.rules.specs.Histories.{Job, Seen, seenAtStart, timeSeen, before, called, fallsOf}
 use Rattle.rules.specs.Demands.{Exactly, verdictIn, Demand1, Demand2, Demand3, Demands, stateAfter, seen, answerTo}
 use Rattle.rules.proofs.Verdicts.{verdict-cases, exactly}
+use Rattle.rules.proofs.Refusals.{accepted-refused, call-numbers}
 use Rattle.rules.proofs.Steps.{step-cases, timeOfCall}
 use Rattle.rules.proofs.Bound.{bounded-from}
 use Rattle.rules.proofs.Agreement.{Agree, start-queue, start-agrees, same-time, run-table, run-agrees}
@@ -20,15 +21,13 @@ use Rattle.rules.proofs.Called.{agree-demand2, agree-moves, agree-calle
 
 -- ---- demand 1, of any call on any state
 
-accepted-refused : {X : Type 0} {a : Answer} {r : Running} {m : ℕ} {g : Margin} {x : Refusal} → a ≡ Accepted r m g → a ≡ Refused x → X
-accepted-refused p q = let z : _≡_ {A = ℕ} 0 1 = cc in let n : ⊥ = omega arith in absurd n
-
-pub demand-1 : (s : State) (c : Call) → Demand1 s c
-demand-1 s c =
+pub demand-1 : (s : State) → Demand1 s
+demand-1 s =
     record {
       exactly =
-          step-cases (λ x. Exactly (testsOf s c) (verdictIn (x .answer))) s c (λ r. exactly (testsOf s c) (Failed r)) (exactly (testsOf s c) Passed);
-      unchanged = λ r. step-cases (λ x. x .answer ≡ Refused r → x .state ≡ s) s c (λ q e h. refl) (λ e h. accepted-refused refl h);
+          λ c. step-cases (λ x. Exactly (testsOf s c) (verdictIn (x .answer))) s c (λ r. exactly (testsOf s c) (Failed r)) (exactly (testsOf s c) Passed);
+      numbers = call-numbers s;
+      unchanged = λ c r. step-cases (λ x. x .answer ≡ Refused r → x .state ≡ s) s c (λ q e h. refl) (λ e h. accepted-refused refl h);
     }
 
 -- of a plan asked of any state

@@ -17,7 +17,7 @@ use Rattle.rules.specs.Table.{Task, most, isTask, verdictOf}
 use Rattle.rules.specs.State.{Running, Nobody, One, Ready, State, deadlineIn, levelIn, listing, waiting, runs, everyone, MayLead, ActiveTask, Whole}
 use Rattle.rules.specs.Calls.{startOf, startBy, startedOf, Call, frontOf, thenDo, stepOf}
 use Rattle.rules.specs.Histories.{runOf}
-use Rattle.rules.proofs.Tables.{right-size}
+use Rattle.rules.proofs.Tables.{passed-to-3}
 use Rattle.rules.proofs.Levels.{level-mono}
 use Rattle.rules.proofs.Ranges.{list-range}
 use Rattle.rules.proofs.Queues.{Queue, member-active, queue-runs, queue-listing, front-first}
@@ -167,4 +167,4 @@ unfolding startedOf
 start-refused table n r e = ap (startBy table n) e
 
 pub refused-not-whole : Whole (startOf [] 0) → ⊥
-refused-not-whole w = omega (arith, right-size [] (w .table))
+refused-not-whole w = omega (arith, passed-to-3 [] (w .table))

@@ -9,11 +9,12 @@ use mathlib.Core.Logic.{_⊎_, _↔_}
 use lib.Dec.{eqb}
 use lib.ListN.{length, getD}
 use Rattle.laws.specs.Words.{count, In, Ahead, Sorted, grouped}
-use Rattle.rules.specs.Numbers.{Refusal, TableSize, OutOfRange, OutOfOrder, Overload, Test, Verdict, Passed, Failed, firstOf}
-use Rattle.rules.specs.Table.{Task, most, taskAt, ranged, ordered, loadOf, testsTo3, tableTests, verdictOf}
+use Rattle.rules.specs.Numbers.{Refusal, Test, Verdict, Passed, Failed}
+use Rattle.rules.specs.Table.{Task, tableTests, verdictOf}
 use Rattle.rules.specs.State.{Running, Nobody, One, State, waiting, everyone}
 use Rattle.rules.specs.Calls.{Call, Answer, Accepted, Refused, Margin, startOf, testsOf, stepOf}
 use Rattle.rules.specs.Listing.{listingTests, listedOf}
+use Rattle.rules.specs.Refusals.{TableNumbers, CallNumbers, ListingNumber}
 use Rattle.rules.specs.Histories.{Job, Seen, runOf, eventsOf, seenAtStart, seenAfter, before, unfinished, others, tasksOf, levelSeen, fallsOf, totalOf, boundOf}
 
 -- ---- 1. "Every task table, clock reading and event is answered. Bad input gets the refusal number that our rules name, given exactly
@@ -38,29 +39,23 @@ abbrev pub verdictIn : Answer → Verdict
 verdictIn (Accepted running moves margin) = Passed
 verdictIn (Refused r) = Failed r
 
--- of any call on any state
-pub record Demand1 (s : State) (c : Call) : Type 0 where
-  pub exactly : Exactly (testsOf s c) (verdictIn (stepOf s c .answer))
-  pub unchanged : (r : Refusal) → stepOf s c .answer ≡ Refused r → stepOf s c .state ≡ s
+-- (What each number's test says, row by row of the paper's table: TableNumbers, CallNumbers and ListingNumber in Refusals.antt.)
 
--- k is the first task that the tests 2 and 3 do not pass, and it is bad in this way
-pub record FirstBad (Bad : Task → Type 0) (table : List Task) (k : ℕ) : Type 0 where
-  pub size : (1 ≤ length table) × (length table ≤ most)
-  pub task : (1 ≤ k) × (k ≤ length table)
-  pub bad : Bad (taskAt table k)
-  pub earlier : (j : ℕ) → 1 ≤ j → j < k → (ranged (taskAt table j) ≡ true) × (ordered (taskAt table j) ≡ true)
+-- of any state, and any call on it
+pub record Demand1 (s : State) : Type 0 where
+  pub exactly : (c : Call) → Exactly (testsOf s c) (verdictIn (stepOf s c .answer))
+  pub numbers : CallNumbers s
+  pub unchanged : (c : Call) (r : Refusal) → stepOf s c .answer ≡ Refused r → stepOf s c .state ≡ s
 
 -- of any table
 pub record Demand1Table (table : List Task) : Type 0 where
   pub exactly : Exactly (tableTests table) (verdictOf table)
-  pub number-1 : (verdictOf table ≡ Failed TableSize) ↔ ((length table ≡ 0) ⊎ (most < length table))
-  pub number-2 : (k : ℕ) → (verdictOf table ≡ Failed (OutOfRange k)) ↔ FirstBad (λ x. ranged x ≡ false) table k
-  pub number-3 : (k : ℕ) → (verdictOf table ≡ Failed (OutOfOrder k)) ↔ FirstBad (λ x. (ranged x ≡ true) × (ordered x ≡ false)) table k
-  pub number-4 : (verdictOf table ≡ Failed Overload) ↔ ((firstOf (testsTo3 table) ≡ Passed) × (1000 < loadOf table))
+  pub numbers : TableNumbers table
 
 -- of the listing into any lent buffer
 pub record Demand1Listing (s : State) (buffer : List ℕ) : Type 0 where
   pub exactly : Exactly (listingTests s buffer) (listedOf s buffer .verdict)
+  pub numbers : ListingNumber s buffer
   pub unchanged : (r : Refusal) → listedOf s buffer .verdict ≡ Failed r → listedOf s buffer .buffer ≡ buffer
   pub size : length (listedOf s buffer .buffer) ≡ length buffer
   pub behind : (i : ℕ) → 2 * length (waiting s) ≤ i → getD (listedOf s buffer .buffer) i 0 ≡ getD buffer i 0
@@ -116,6 +111,6 @@ pub record Demand3 (table : List Task) (reading : ℕ) (calls : List Call) : Typ
 -- ---- all three, of every table that passes its tests, every start reading and every list of calls
 
 pub record Demands (table : List Task) (reading : ℕ) (calls : List Call) : Type 0 where
-  pub demand-1 : (c : Call) → Demand1 (stateAfter table reading calls) c
+  pub demand-1 : Demand1 (stateAfter table reading calls)
   pub demand-2 : Demand2 table (stateAfter table reading calls) (seen table reading calls)
   pub demand-3 : Demand3 table reading calls

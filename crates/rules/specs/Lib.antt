@@ -7,6 +7,7 @@ pub mod State
 pub mod Calls
 pub mod Listing
 pub mod Lines
+pub mod Refusals
 pub mod Histories
 pub mod Demands
 pub mod Promotion
