@@ -73,7 +73,10 @@ module _ (s : State) (v : Seen) (a : Agree s v) where
   unfolding inOrder
   agree-demand2 =
       record {
-        nobody = (λ e. nobody-first (v .jobs) (unfinished v) (λ i m. inOrder-in before i (v .jobs) m) (sym runs-first ∙ e), λ e. runs-first ∙ ap (λ (js : List Job). frontOf (tasksOf (inOrder before js))) e);
+        nobody = (
+          λ e. nobody-first (v .jobs) (unfinished v) (λ i m. inOrder-in before i (v .jobs) m) (sym runs-first ∙ e),
+          λ e. runs-first ∙ ap (λ (js : List Job). frontOf (tasksOf (inOrder before js))) e,
+        );
         running =
             λ k e. first-earliest (v .jobs) (unfinished v) (λ i m. inOrder-in before i (v .jobs) m) (λ i m. in-inOrder before i (v .jobs) m) (a .sorted) k
             (sym runs-first ∙ e);
@@ -98,18 +101,22 @@ module _ (s : State) (v : Seen) (a : Agree s v) where
   -- and so is the whole state
   pub agree-called : s ≡ called (s .table) v
   agree-called =
-      let act : (k : ℕ) → s .active k ≡ leb 1 (count (λ j. eqb k (j .task)) (v .jobs)) =
-      λ k. one-digit (s .active k)
-      ∙ ap (leb 1) (sym (a .queue .once k) ∙ count-map (λ (j : Job). j .task) (eqb k) (λ j. eqb k (j .task)) (unfinished v) (λ j m. refl) ∙ count-inOrder before (λ j. eqb k (j .task)) (v .jobs)) in
       λ i. record {
         table = s .table;
         clock = a .clock i;
         reading = a .reading i;
         released = a .released i;
-        active = fun-ext act i;
+        active = fun-ext counted i;
         ready = record { running = runs-first i; lists = fun-ext lists-levels i };
       }
     where
       one-digit : (b : Bool) → b ≡ leb 1 (digit b)
       one-digit true = refl
       one-digit false = refl
+
+      -- active is to have a job among the unfinished
+      counted : (k : ℕ) → s .active k ≡ leb 1 (count (λ j. eqb k (j .task)) (v .jobs))
+      counted k =
+          one-digit (s .active k)
+          ∙ ap (leb 1) (sym (a .queue .once k) ∙ count-map (λ (j : Job). j .task) (eqb k) (λ j. eqb k (j .task)) (unfinished v) (λ j m. refl)
+          ∙ count-inOrder before (λ j. eqb k (j .task)) (v .jobs))

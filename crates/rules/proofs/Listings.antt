@@ -12,7 +12,7 @@ use Rattle.rules.specs.Table.{most}
 use Rattle.rules.specs.State.{State, listing, waiting}
 use Rattle.rules.specs.Listing.{pairsOf, bytesOf, listingTests, Listed, listedBy, listedOf}
 use Rattle.rules.specs.Refusals.{ListingNumber}
-use Rattle.rules.specs.Demands.{Exactly, Demand1Listing}
+use Rattle.rules.specs.Demands.{Demand1Listing}
 use Rattle.rules.proofs.Verdicts.{passed-failed, verdict-cases, none-failed, Asks, asks-less, asks-holds, asks-passed, asks-failed, exactly}
 
 -- ---- "It uses twice the number waiting"
@@ -56,22 +56,22 @@ module _ (s : State) (buffer : List ℕ) where
   passed-fits : firstOf (listingTests s buffer) ≡ Passed → length bytes ≤ length buffer
   passed-fits e = omega (arith, asks-passed short-asked [] e, bytes-twice (s .ready .lists))
 
+  same-verdict : firstOf (listingTests s buffer) ≡ listedOf s buffer .verdict
+  same-verdict = listed-cases (λ x. firstOf (listingTests s buffer) ≡ x .verdict) (λ e. e) (λ r e. e)
+
   listing-number : ListingNumber s buffer
   listing-number =
       record {
         number-11 = (
-          listed-cases (λ x. x .verdict ≡ Failed BufferTooShort → length buffer < 2 * length (waiting s)) (λ e f. passed-failed Passed BufferTooShort refl f)
-              (λ r e f. asks-failed short-asked [] (λ q. length buffer < 2 * length (waiting s)) r (λ l. l) (λ l. none-failed r) e),
-          λ l. listed-cases (λ x. x .verdict ≡ Failed BufferTooShort) (λ e. passed-failed _ BufferTooShort e (asks-holds short-asked [] l)) (λ r e. sym e ∙ asks-holds short-asked [] l),
+          λ f. asks-failed short-asked [] (λ q. length buffer < 2 * length (waiting s)) BufferTooShort (λ l. l) (λ l. none-failed BufferTooShort) (same-verdict ∙ f),
+          λ l. sym same-verdict ∙ asks-holds short-asked [] l,
         );
       }
 
   pub demand-1-listing : Demand1Listing s buffer
   demand-1-listing =
       record {
-        exactly =
-            listed-cases (λ x. Exactly (listingTests s buffer) (x .verdict)) (exactly (listingTests s buffer) Passed)
-            (λ r. exactly (listingTests s buffer) (Failed r));
+        exactly = exactly (listingTests s buffer) (listedOf s buffer .verdict) same-verdict;
         numbers = listing-number;
         unchanged = λ r. listed-cases (λ x. x .verdict ≡ Failed r → x .buffer ≡ buffer) (λ e f. passed-failed Passed r refl f) (λ q e f. refl);
         size = listed-cases (λ x. length (x .buffer) ≡ length buffer) (λ e. written-size bytes buffer (passed-fits e)) (λ r e. refl);

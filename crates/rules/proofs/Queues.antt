@@ -20,7 +20,7 @@ use Rattle.rules.specs.State.{One, Last, At, timeOf, Ready, State, deadl
 use Rattle.rules.specs.Calls.{relevel, enter, frontOf, leave, moved, releasedNow, begun, ended}
 use Rattle.rules.proofs.Tables.{passed-to-3}
 use Rattle.rules.proofs.Levels.{level-low, level-high, lower-earlier}
-use Rattle.rules.proofs.Ranges.{rising-levels}
+use Rattle.rules.proofs.Ranges.{rising-levels, earlier-leads}
 use Rattle.rules.proofs.Ready.{sooner, Rising, Ranged, readyOf, listing-grouped, leave-ready, enter-ready, relevel-ready, ready-same}
 
 -- the state s is that of the list q
@@ -164,8 +164,8 @@ module _ (s : State) (k : ℕ) (q : List ℕ) (w : Queue s q) (idle : s .active 
             (λ j d. omega (arith, count-inserted (sooner due) (eqb j) k q, w .once j, ap digit (ne-eqb j k d)));
         order =
             sorted-inserted (sooner due) (MayLead (s .table) (releasedNow s k)) k q order-kept
-            (λ j m t. let l : due k < due j = ltb-true _ _ t in record { deadline = omega arith; release = λ e. let z : ⊥ = omega arith in absurd z })
-            (λ i j t h. let l : due k < due i = ltb-true _ _ t in let g : due i ≤ due j = h .deadline in record { deadline = omega arith; release = λ e. let z : ⊥ = omega arith in absurd z })
+            (λ j m t. earlier-leads (s .table) (releasedNow s k) k j (ltb-true _ _ t))
+            (λ i j t h. let l : due k < due i = ltb-true _ _ t in earlier-leads (s .table) (releasedNow s k) k j (omega (arith, h .deadline)))
             (λ j m t. record { deadline = ltb-false _ _ t; release = λ e. rw release-now (past-now j) });
         ready =
             ap (enter new k) (w .ready ∙ ready-same (levelIn s (s .clock)) new q (λ j m. sym (level-kept j m)))

@@ -1,6 +1,6 @@
--- What the lists of a whole state have: numbers that are levels, and an order that is one of levels too. Assumes nothing.
+-- What the lists of a state have: numbers that are levels, and an order of deadlines that is one of levels too. Assumes nothing.
 use mathlib.Core.List.{List}
-use Prim.Native.Nat.{ℕ, _≤_}
+use Prim.Native.Nat.{ℕ, _≤_, _<_}
 use native.Mathlib.Omega.{arith}
 use Rattle.laws.specs.Words.{In, Sorted}
 use Rattle.laws.proofs.Orders.{sorted-mono}
@@ -26,3 +26,7 @@ pub rising-levels : (table : List Task) (released : ℕ → Last) (time : ℕ) (
 rising-levels table released time q =
     sorted-mono (MayLead table released) (λ a b. levelsOf table released time a ≤ levelsOf table released time b) q
     (λ a b m n h. level-mono table (deadlineOf table released a) (deadlineOf table released b) time time (omega (arith, h .deadline)))
+
+-- an earlier deadline may stand ahead, whatever the releases
+pub earlier-leads : (table : List Task) (released : ℕ → Last) (a b : ℕ) → deadlineOf table released a < deadlineOf table released b → MayLead table released a b
+earlier-leads table released a b h = record { deadline = omega arith; release = λ e. let z : ⊥ = omega arith in absurd z }

@@ -210,7 +210,8 @@ module _ (s : State) where
   gives-failed : (c : Call) (r : Refusal) → Gives s c r → firstOf (testsOf s c) ≡ Failed r
   unfolding stepOf
   gives-failed c r =
-      verdict-cases (λ v. stepBy s c v .answer ≡ Refused r → v ≡ Failed r) (firstOf (testsOf s c)) (λ p e. accepted-refused refl e) (λ q f e. ap Failed (refused-same e))
+      verdict-cases (λ v. stepBy s c v .answer ≡ Refused r → v ≡ Failed r) (firstOf (testsOf s c)) (λ p e. accepted-refused refl e)
+      (λ q f e. ap Failed (refused-same e))
 
   failed-gives : (c : Call) (r : Refusal) → firstOf (testsOf s c) ≡ Failed r → Gives s c r
   unfolding stepOf

@@ -19,7 +19,7 @@ use Rattle.rules.specs.Calls.{startOf, startBy, startedOf, Call, frontOf
 use Rattle.rules.specs.Histories.{runOf}
 use Rattle.rules.proofs.Tables.{passed-to-3}
 use Rattle.rules.proofs.Levels.{level-mono}
-use Rattle.rules.proofs.Ranges.{list-range}
+use Rattle.rules.proofs.Ranges.{list-range, earlier-leads}
 use Rattle.rules.proofs.Queues.{Queue, member-active, queue-runs, queue-listing, front-first}
 use Rattle.rules.proofs.Steps.{step-cases, movedBy, listAfter, step-queue}
 use Rattle.rules.proofs.Agreement.{start-queue}
@@ -82,7 +82,7 @@ module _ (s : State) (w : Whole s) where
   unfolding listing
   waiting-order =
       sorted-joined (s .ready .lists) (MayLead (s .table) (s .released)) most 1 (w .order)
-      (λ i j a b l m n. let h = lower-earlier-deadline i j a b l m n in record { deadline = omega arith; release = λ e. let z : ⊥ = omega arith in absurd z })
+      (λ i j a b l m n. earlier-leads (s .table) (s .released) a b (lower-earlier-deadline i j a b l m n))
 
   -- the waiting jobs, grouped by their levels, are the lists
   lists-grouped : (l : ℕ) → grouped (levelIn s (s .clock)) (waiting s) l ≡ s .ready .lists l
