@@ -1,7 +1,7 @@
 -- Demand 1 of the calls, number by number: what each test of a call asks for, and so when each number is given. Assumes nothing.
 use mathlib.Core.Path.{_≡_, refl, sym, ap, _∙_}
 use mathlib.Core.Bool.{true, false, not}
-use mathlib.Core.List.{List, [], _∷_, _++_}
+use mathlib.Core.List.{List, [], _++_}
 use Prim.Native.Nat.{ℕ, _+_, _^_, _≤_, _<_}
 use native.Mathlib.Decide.{decLt}
 use native.Mathlib.Omega.{arith}
@@ -13,7 +13,7 @@ use Rattle.rules.specs.Numbers.{Test, refuse, Verdict, Passed, Failed, f
 use Rattle.rules.specs.Table.{Task, taskAt, isTask}
 use Rattle.rules.specs.Clock.{elapsedOf, wentBack, tooFar}
 use Rattle.rules.specs.State.{Running, Nobody, One, Last, Never, At, State}
-use Rattle.rules.specs.Calls.{Call, Release, Done, Clock, Answer, Accepted, Refused, Margin, readingOf, timeAt, tooSoon, isRunning, clockTests, taskTest, testsOf, stepBy, stepOf}
+use Rattle.rules.specs.Calls.{Call, Release, Done, Clock, Answer, Accepted, Refused, Margin, readingOf, timeAt, tooSoon, isRunning, clockTests, taskTest, laterTests, testsOf, stepBy, stepOf}
 use Rattle.rules.specs.Refusals.{InTable, Gives, Accepts, OnTime, Early, CallNumbers}
 use Rattle.rules.proofs.Verdicts.{passed-failed, verdict-cases, none-passed, none-failed, Asks, as-it-is, asks-for, asks-less, asks-passes, asks-holds, asks-passed, asks-failed}
 
@@ -108,24 +108,15 @@ module _ (s : State) (n : ℕ) where
     time-failed P r back full rest =
         asks-failed (back-asked (elapsedOf n (s .reading))) _ P r back (λ a. asks-failed (full-asked (timeAt s n)) xs P r (λ b. full (a, b)) (λ b. rest (a, b)))
 
--- the tests of a call behind 5 and 6
-abbrev later : State → Call → List Test
-later s (Release n k) =
-    taskTest (s .table) k ∷ refuse TaskActive (s .active k) ∷ refuse TooSoon (tooSoon (s .released k) (taskAt (s .table) k .t) (timeAt s n)) ∷ []
-later s (Done n k) = taskTest (s .table) k ∷ refuse NotRunning (not (isRunning (s .ready .running) k)) ∷ []
-later s (Clock n) = []
-
-tests-later : (s : State) (c : Call) → firstOf (testsOf s c) ≡ firstOf (clockTests (s .clock) (s .reading) (readingOf c) ++ later s c)
+tests-later : (s : State) (c : Call) → firstOf (testsOf s c) ≡ firstOf (clockTests (s .clock) (s .reading) (readingOf c) ++ laterTests s c)
 unfolding testsOf
-tests-later s (Release n k) = refl
-tests-later s (Done n k) = refl
-tests-later s (Clock n) = refl
+tests-later s c = refl
 
 -- ---- what an accepted call has passed
 
 module _ (s : State) where
-  pub call-passed : (c : Call) → firstOf (testsOf s c) ≡ Passed → OnTime s (readingOf c) × (firstOf (later s c) ≡ Passed)
-  call-passed c e = time-passed s (readingOf c) (later s c) (sym (tests-later s c) ∙ e)
+  pub call-passed : (c : Call) → firstOf (testsOf s c) ≡ Passed → OnTime s (readingOf c) × (firstOf (laterTests s c) ≡ Passed)
+  call-passed c e = time-passed s (readingOf c) (laterTests s c) (sym (tests-later s c) ∙ e)
 
   pub release-passed : (n k : ℕ) → firstOf (testsOf s (Release n k)) ≡ Passed
       → OnTime s n × InTable (s .table) k × (s .active k ≡ false) × (Early s n k → ⊥)
@@ -167,8 +158,8 @@ Why s (Clock n) = Given (Back s n) (Full s n) ⊥ ⊥ ⊥ ⊥
 
 module _ (s : State) where
   why-timed : (c : Call) (r : Refusal) → (Back s (readingOf c) → Why s c CounterWentBack) → (Full s (readingOf c) → Why s c ClockFull)
-      → (OnTime s (readingOf c) → firstOf (later s c) ≡ Failed r → Why s c r) → firstOf (testsOf s c) ≡ Failed r → Why s c r
-  why-timed c r back full rest e = time-failed s (readingOf c) (later s c) (Why s c) r back full rest (sym (tests-later s c) ∙ e)
+      → (OnTime s (readingOf c) → firstOf (laterTests s c) ≡ Failed r → Why s c r) → firstOf (testsOf s c) ≡ Failed r → Why s c r
+  why-timed c r back full rest e = time-failed s (readingOf c) (laterTests s c) (Why s c) r back full rest (sym (tests-later s c) ∙ e)
 
   why : (c : Call) (r : Refusal) → firstOf (testsOf s c) ≡ Failed r → Why s c r
   why (Release n k) r =
@@ -187,14 +178,14 @@ module _ (s : State) where
   -- ---- and the other way round
 
   -- a call on time is answered by its later tests
-  timely : (c : Call) → OnTime s (readingOf c) → firstOf (testsOf s c) ≡ firstOf (later s c)
-  timely c o = tests-later s c ∙ time-passes s (readingOf c) (later s c) o
+  timely : (c : Call) → OnTime s (readingOf c) → firstOf (testsOf s c) ≡ firstOf (laterTests s c)
+  timely c o = tests-later s c ∙ time-passes s (readingOf c) (laterTests s c) o
 
   -- and one for a task of the table by those behind
-  released : (n k : ℕ) → OnTime s n → InTable (s .table) k → firstOf (testsOf s (Release n k)) ≡ firstOf (behind (later s (Release n k)))
+  released : (n k : ℕ) → OnTime s n → InTable (s .table) k → firstOf (testsOf s (Release n k)) ≡ firstOf (behind (laterTests s (Release n k)))
   released n k o i = timely (Release n k) o ∙ asks-passes (task-asked (s .table) k) _ i
 
-  done : (n k : ℕ) → OnTime s n → InTable (s .table) k → firstOf (testsOf s (Done n k)) ≡ firstOf (behind (later s (Done n k)))
+  done : (n k : ℕ) → OnTime s n → InTable (s .table) k → firstOf (testsOf s (Done n k)) ≡ firstOf (behind (laterTests s (Done n k)))
   done n k o i = timely (Done n k) o ∙ asks-passes (task-asked (s .table) k) _ i
 
   soon : (n k : ℕ) → Asks (refuse TooSoon (tooSoon (s .released k) (taskAt (s .table) k .t) (timeAt s n))) (Early s n k → ⊥) (Early s n k)
@@ -202,7 +193,7 @@ module _ (s : State) where
 
   -- of a task that is not active, by the spacing
   spaced : (n k : ℕ) → OnTime s n → InTable (s .table) k → s .active k ≡ false
-      → firstOf (testsOf s (Release n k)) ≡ firstOf (behind (behind (later s (Release n k))))
+      → firstOf (testsOf s (Release n k)) ≡ firstOf (behind (behind (laterTests s (Release n k))))
   spaced n k o i a = released n k o i ∙ asks-passes (as-it-is (refuse TaskActive (s .active k))) _ a
 
   -- ---- answers and verdicts
@@ -238,8 +229,8 @@ module _ (s : State) where
   pub call-numbers : CallNumbers s
   call-numbers =
       record {
-        number-5 = λ c. (five c, λ h. failed-gives c CounterWentBack (tests-later s c ∙ time-back s (readingOf c) (later s c) h));
-        number-6 = λ c. (six c, λ h. failed-gives c ClockFull (tests-later s c ∙ time-full s (readingOf c) (later s c) h));
+        number-5 = λ c. (five c, λ h. failed-gives c CounterWentBack (tests-later s c ∙ time-back s (readingOf c) (laterTests s c) h));
+        number-6 = λ c. (six c, λ h. failed-gives c ClockFull (tests-later s c ∙ time-full s (readingOf c) (laterTests s c) h));
         number-7 =
             λ n k. (
               λ g. why (Release n k) NoSuchTask (gives-failed _ _ g),
