@@ -1,7 +1,7 @@
 -- Demand 1 of the calls, number by number: what each test of a call asks for, and so when each number is given. Assumes nothing.
 use mathlib.Core.Path.{_≡_, refl, sym, ap, _∙_}
 use mathlib.Core.Bool.{true, false, not}
-use mathlib.Core.List.{List, [], _++_}
+use mathlib.Core.List.{List, [], _∷_, _++_}
 use Prim.Native.Nat.{ℕ, _+_, _^_, _≤_, _<_}
 use native.Mathlib.Decide.{decLt}
 use native.Mathlib.Omega.{arith}
@@ -157,45 +157,6 @@ Why s (Done n k) =
 Why s (Clock n) = Given (Back s n) (Full s n) ⊥ ⊥ ⊥ ⊥
 
 module _ (s : State) where
-  why-timed : (c : Call) (r : Refusal) → (Back s (readingOf c) → Why s c CounterWentBack) → (Full s (readingOf c) → Why s c ClockFull)
-      → (OnTime s (readingOf c) → firstOf (laterTests s c) ≡ Failed r → Why s c r) → firstOf (testsOf s c) ≡ Failed r → Why s c r
-  why-timed c r back full rest e = time-failed s (readingOf c) (laterTests s c) (Why s c) r back full rest (sym (tests-later s c) ∙ e)
-
-  why : (c : Call) (r : Refusal) → firstOf (testsOf s c) ≡ Failed r → Why s c r
-  why (Release n k) r =
-      let P : Refusal → Type 0 = Why s (Release n k) in
-      why-timed (Release n k) r (λ h. h) (λ h. h)
-      (λ o. asks-failed (task-asked (s .table) k) _ P r (λ x. (o, x))
-      (λ i. asks-failed (as-it-is (refuse TaskActive (s .active k))) _ P r (λ a. (o, i, a))
-      (λ a. asks-failed (soon-asked (s .released k) (taskAt (s .table) k .t) (timeAt s n)) [] P r (λ e. (o, i, a, e)) (λ x. none-failed r))))
-  why (Done n k) r =
-      let P : Refusal → Type 0 = Why s (Done n k) in
-      why-timed (Done n k) r (λ h. h) (λ h. h)
-      (λ o. asks-failed (task-asked (s .table) k) _ P r (λ x. (o, x))
-      (λ i. asks-failed (runs-asked (s .ready .running) k) [] P r (λ x. (o, i, x)) (λ x. none-failed r)))
-  why (Clock n) r = why-timed (Clock n) r (λ h. h) (λ h. h) (λ o. none-failed r)
-
-  -- ---- and the other way round
-
-  -- a call on time is answered by its later tests
-  timely : (c : Call) → OnTime s (readingOf c) → firstOf (testsOf s c) ≡ firstOf (laterTests s c)
-  timely c o = tests-later s c ∙ time-passes s (readingOf c) (laterTests s c) o
-
-  -- and one for a task of the table by those behind
-  released : (n k : ℕ) → OnTime s n → InTable (s .table) k → firstOf (testsOf s (Release n k)) ≡ firstOf (behind (laterTests s (Release n k)))
-  released n k o i = timely (Release n k) o ∙ asks-passes (task-asked (s .table) k) _ i
-
-  done : (n k : ℕ) → OnTime s n → InTable (s .table) k → firstOf (testsOf s (Done n k)) ≡ firstOf (behind (laterTests s (Done n k)))
-  done n k o i = timely (Done n k) o ∙ asks-passes (task-asked (s .table) k) _ i
-
-  soon : (n k : ℕ) → Asks (refuse TooSoon (tooSoon (s .released k) (taskAt (s .table) k .t) (timeAt s n))) (Early s n k → ⊥) (Early s n k)
-  soon n k = soon-asked (s .released k) (taskAt (s .table) k .t) (timeAt s n)
-
-  -- of a task that is not active, by the spacing
-  spaced : (n k : ℕ) → OnTime s n → InTable (s .table) k → s .active k ≡ false
-      → firstOf (testsOf s (Release n k)) ≡ firstOf (behind (behind (laterTests s (Release n k))))
-  spaced n k o i a = released n k o i ∙ asks-passes (as-it-is (refuse TaskActive (s .active k))) _ a
-
   -- ---- answers and verdicts
 
   gives-failed : (c : Call) (r : Refusal) → Gives s c r → firstOf (testsOf s c) ≡ Failed r
@@ -214,57 +175,81 @@ module _ (s : State) where
   passed-accepts : (c : Call) → firstOf (testsOf s c) ≡ Passed → Accepts s c
   passed-accepts c e r g = passed-failed (firstOf (testsOf s c)) r e (gives-failed c r g)
 
+  -- ---- from the number to what it says
+
+  why-timed : (c : Call) (r : Refusal) → (Back s (readingOf c) → Why s c CounterWentBack) → (Full s (readingOf c) → Why s c ClockFull)
+      → (OnTime s (readingOf c) → firstOf (laterTests s c) ≡ Failed r → Why s c r) → Gives s c r → Why s c r
+  why-timed c r back full rest g = time-failed s (readingOf c) (laterTests s c) (Why s c) r back full rest (sym (tests-later s c) ∙ gives-failed c r g)
+
+  soon : (n k : ℕ) → Asks (refuse TooSoon (tooSoon (s .released k) (taskAt (s .table) k .t) (timeAt s n))) (Early s n k → ⊥) (Early s n k)
+  soon n k = soon-asked (s .released k) (taskAt (s .table) k .t) (timeAt s n)
+
+  why : (c : Call) (r : Refusal) → Gives s c r → Why s c r
+  why (Release n k) r =
+      let P : Refusal → Type 0 = Why s (Release n k) in
+      why-timed (Release n k) r (λ h. h) (λ h. h)
+      (λ o. asks-failed (task-asked (s .table) k) _ P r (λ x. (o, x))
+      (λ i. asks-failed (as-it-is (refuse TaskActive (s .active k))) _ P r (λ a. (o, i, a))
+      (λ a. asks-failed (soon n k) [] P r (λ e. (o, i, a, e)) (λ x. none-failed r))))
+  why (Done n k) r =
+      let P : Refusal → Type 0 = Why s (Done n k) in
+      why-timed (Done n k) r (λ h. h) (λ h. h)
+      (λ o. asks-failed (task-asked (s .table) k) _ P r (λ x. (o, x))
+      (λ i. asks-failed (runs-asked (s .ready .running) k) [] P r (λ x. (o, i, x)) (λ x. none-failed r)))
+  why (Clock n) r = why-timed (Clock n) r (λ h. h) (λ h. h) (λ o. none-failed r)
+
+  why-time : (c : Call) → (Gives s c CounterWentBack → Back s (readingOf c)) × (Gives s c ClockFull → Full s (readingOf c))
+  why-time (Release n k) = (why (Release n k) CounterWentBack, why (Release n k) ClockFull)
+  why-time (Done n k) = (why (Done n k) CounterWentBack, why (Done n k) ClockFull)
+  why-time (Clock n) = (why (Clock n) CounterWentBack, why (Clock n) ClockFull)
+
+  -- ---- and back: a call on time is answered by its later tests, and one for a task of the table by those behind that test
+
+  on-time : (c : Call) → OnTime s (readingOf c) → firstOf (testsOf s c) ≡ firstOf (laterTests s c)
+  on-time c o = tests-later s c ∙ time-passes s (readingOf c) (laterTests s c) o
+
+  module _ (c : Call) (k : ℕ) (xs : List Test) (task-first : laterTests s c ≡ taskTest (s .table) k ∷ xs) where
+    in-table : OnTime s (readingOf c) → InTable (s .table) k → firstOf (testsOf s c) ≡ firstOf xs
+    in-table o i = on-time c o ∙ ap firstOf task-first ∙ asks-passes (task-asked (s .table) k) xs i
+
+    not-in-table : OnTime s (readingOf c) × (InTable (s .table) k → ⊥) → Gives s c NoSuchTask
+    not-in-table h = failed-gives c NoSuchTask (on-time c (h .0) ∙ ap firstOf task-first ∙ asks-holds (task-asked (s .table) k) xs (h .1))
+
+  -- and the release of a task that is not active by the spacing
+  idle : (n k : ℕ) → OnTime s n → InTable (s .table) k → s .active k ≡ false
+      → firstOf (testsOf s (Release n k)) ≡ firstOf (behind (behind (laterTests s (Release n k))))
+  idle n k o i a = in-table (Release n k) k _ refl o i ∙ asks-passes (as-it-is (refuse TaskActive (s .active k))) _ a
+
   -- ---- the rows of the table
-
-  five : (c : Call) → Gives s c CounterWentBack → Back s (readingOf c)
-  five (Release n k) g = why (Release n k) CounterWentBack (gives-failed _ _ g)
-  five (Done n k) g = why (Done n k) CounterWentBack (gives-failed _ _ g)
-  five (Clock n) g = why (Clock n) CounterWentBack (gives-failed _ _ g)
-
-  six : (c : Call) → Gives s c ClockFull → Full s (readingOf c)
-  six (Release n k) g = why (Release n k) ClockFull (gives-failed _ _ g)
-  six (Done n k) g = why (Done n k) ClockFull (gives-failed _ _ g)
-  six (Clock n) g = why (Clock n) ClockFull (gives-failed _ _ g)
 
   pub call-numbers : CallNumbers s
   call-numbers =
       record {
-        number-5 = λ c. (five c, λ h. failed-gives c CounterWentBack (tests-later s c ∙ time-back s (readingOf c) (laterTests s c) h));
-        number-6 = λ c. (six c, λ h. failed-gives c ClockFull (tests-later s c ∙ time-full s (readingOf c) (laterTests s c) h));
-        number-7 =
-            λ n k. (
-              λ g. why (Release n k) NoSuchTask (gives-failed _ _ g),
-              λ h. failed-gives (Release n k) NoSuchTask (timely (Release n k) (h .0) ∙ asks-holds (task-asked (s .table) k) _ (h .1)),
-            );
-        number-7-done =
-            λ n k. (
-              λ g. why (Done n k) NoSuchTask (gives-failed _ _ g),
-              λ h. failed-gives (Done n k) NoSuchTask (timely (Done n k) (h .0) ∙ asks-holds (task-asked (s .table) k) _ (h .1)),
-            );
+        number-5 = λ c. (why-time c .0, λ h. failed-gives c CounterWentBack (tests-later s c ∙ time-back s (readingOf c) (laterTests s c) h));
+        number-6 = λ c. (why-time c .1, λ h. failed-gives c ClockFull (tests-later s c ∙ time-full s (readingOf c) (laterTests s c) h));
+        number-7 = λ n k. (why (Release n k) NoSuchTask, not-in-table (Release n k) k _ refl);
+        number-7-done = λ n k. (why (Done n k) NoSuchTask, not-in-table (Done n k) k _ refl);
         number-8 =
             λ n k. (
-              λ g. why (Release n k) TaskActive (gives-failed _ _ g),
-              λ h. failed-gives (Release n k) TaskActive (released n k (h .0) (h .1) ∙ asks-holds (as-it-is (refuse TaskActive (s .active k))) _ (h .2)),
+              why (Release n k) TaskActive,
+              λ h. failed-gives (Release n k) TaskActive (in-table (Release n k) k _ refl (h .0) (h .1) ∙ asks-holds (as-it-is (refuse TaskActive (s .active k))) _ (h .2)),
             );
         number-9 =
-            λ n k. (
-              λ g. why (Release n k) TooSoon (gives-failed _ _ g),
-              λ h. failed-gives (Release n k) TooSoon (spaced n k (h .0) (h .1) (h .2) ∙ asks-holds (soon n k) [] (h .3)),
-            );
+            λ n k. (why (Release n k) TooSoon, λ h. failed-gives (Release n k) TooSoon (idle n k (h .0) (h .1) (h .2) ∙ asks-holds (soon n k) [] (h .3)));
         number-10 =
             λ n k. (
-              λ g. why (Done n k) NotRunning (gives-failed _ _ g),
-              λ h. failed-gives (Done n k) NotRunning (done n k (h .0) (h .1) ∙ asks-holds (runs-asked (s .ready .running) k) [] (h .2)),
+              why (Done n k) NotRunning,
+              λ h. failed-gives (Done n k) NotRunning (in-table (Done n k) k _ refl (h .0) (h .1) ∙ asks-holds (runs-asked (s .ready .running) k) [] (h .2)),
             );
         release-accepted =
             λ n k. (
               λ a. release-passed s n k (accepts-passed (Release n k) a),
-              λ h. passed-accepts (Release n k) (spaced n k (h .0) (h .1) (h .2) ∙ asks-passes (soon n k) [] (h .3) ∙ none-passed),
+              λ h. passed-accepts (Release n k) (idle n k (h .0) (h .1) (h .2) ∙ asks-passes (soon n k) [] (h .3) ∙ none-passed),
             );
         done-accepted =
             λ n k. (
               λ a. done-passed s n k (accepts-passed (Done n k) a),
-              λ h. passed-accepts (Done n k) (done n k (h .0) (h .1) ∙ asks-passes (runs-asked (s .ready .running) k) [] (h .2) ∙ none-passed),
+              λ h. passed-accepts (Done n k) (in-table (Done n k) k _ refl (h .0) (h .1) ∙ asks-passes (runs-asked (s .ready .running) k) [] (h .2) ∙ none-passed),
             );
-        clock-accepted = λ n. (λ a. call-passed s (Clock n) (accepts-passed (Clock n) a) .0, λ h. passed-accepts (Clock n) (timely (Clock n) h ∙ none-passed));
+        clock-accepted = λ n. (λ a. call-passed s (Clock n) (accepts-passed (Clock n) a) .0, λ h. passed-accepts (Clock n) (on-time (Clock n) h ∙ none-passed));
       }
