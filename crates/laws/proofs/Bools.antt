@@ -19,8 +19,12 @@ pub digit-true : (b : Bool) → 1 ≤ digit b → b ≡ true
 digit-true true h = refl
 digit-true false h = let z : ⊥ = omega arith in absurd z
 
+-- from equations that no value has: `clash cc`
+pub clash : {X : Type 0} → _≡_ {A = ℕ} 0 1 → X
+clash e = let z : ⊥ = omega arith in absurd z
+
 pub true-false : {X : Type 0} (b : Bool) → b ≡ true → b ≡ false → X
-true-false b t f = let z : _≡_ {A = ℕ} 0 1 = cc in let n : ⊥ = omega arith in absurd n
+true-false b t f = clash cc
 
 -- two tests that pass together are equal
 pub same-test : (a b : Bool) → (a ≡ true → b ≡ true) → (b ≡ true → a ≡ true) → a ≡ b

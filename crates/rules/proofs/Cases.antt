@@ -7,12 +7,12 @@ use native.Mathlib.Omega.{arith}
 use lib.IntN.{ℤ, pos, negsuc}
 use lib.ListN.{length, replicate}
 use Rattle.laws.specs.Words.{All, behind, put, count, sum, those, joined}
-use Rattle.rules.specs.Numbers.{TableSize, OutOfRange, OutOfOrder, Overload, ClockFull, BufferTooShort, Verdict, Passed, Failed, firstOf}
+use Rattle.rules.specs.Numbers.{TableSize, OutOfRange, OutOfOrder, Overload, ClockFull, NoSuchTask, BufferTooShort, Verdict, Passed, Failed, firstOf}
 use Rattle.rules.specs.Table.{Task, most, tasksTests, verdictOf}
 use Rattle.rules.specs.Levels.{remainingOf, levelOf, firstLevel, largestBelow, pointsBelow, planOf}
 use Rattle.rules.specs.Clock.{lastTick, elapsedOf, wentBack, timeAfter, tooFar}
-use Rattle.rules.specs.State.{listing}
-use Rattle.rules.specs.Calls.{Call, Release, Done, Clock, None, Ticks, startOf, clockTests, testsOf, lowest, movesOf, stepOf}
+use Rattle.rules.specs.State.{One, listing}
+use Rattle.rules.specs.Calls.{Start, Call, Release, Done, Clock, None, Ticks, Answer, Accepted, Planned, plannedOf, startOf, startedOf, clockTests, testsOf, lowest, movesOf, stepOf}
 use Rattle.rules.specs.Listing.{pairsOf, bytesOf, Listed, listedOf}
 use Rattle.rules.specs.Lines.{PlanLine, EventLine, planLines, lineOf}
 use Rattle.rules.specs.Histories.{Job, before, runOf}
@@ -36,8 +36,14 @@ pub data Case : Type 0 where
   ClockTest : (clock last reading : ℕ) (verdict : Verdict) → Case
   -- what the table tests find
   TableTest : (table : List Task) (verdict : Verdict) → Case
+  -- what a start hands back
+  Starts : (table : List Task) (reading : ℕ) (start : Start) → Case
+  -- the plan of a task, asked of a state
+  PlanAsked : (table : List Task) (task : ℕ) (planned : Planned) → Case
   -- a start, calls, one call more and its E line
   LineOf : (table : List Task) (start : ℕ) (calls : List Call) (next : Call) (line : EventLine) → Case
+  -- a start at reading 0, calls, one call more and its answer
+  Answers : (table : List Task) (calls : List Call) (next : Call) (answer : Answer) → Case
   -- a start at reading 0, calls, a lent buffer and what the listing gives back
   ListingOf : (table : List Task) (calls : List Call) (buffer : List ℕ) (listed : Listed) → Case
   -- a start at reading 0, calls, and the bytes of the listing: level and task of each waiting job
@@ -55,7 +61,10 @@ Holds OneTask = (x : Task) → (firstLevel (x ∷ []) 1 ≡ 1) × (planOf (x ∷
 Holds (Elapsed last reading elapsed) = elapsedOf reading last ≡ elapsed
 Holds (ClockTest clock last reading verdict) = firstOf (clockTests clock last reading) ≡ verdict
 Holds (TableTest table verdict) = verdictOf table ≡ verdict
+Holds (Starts table reading start) = startedOf table reading ≡ start
+Holds (PlanAsked table task planned) = plannedOf (startOf table 0) task ≡ planned
 Holds (LineOf table start calls next line) = lineOf 1 (stepOf (runOf (startOf table start) calls) next) ≡ line
+Holds (Answers table calls next answer) = stepOf (runOf (startOf table 0) calls) next .answer ≡ answer
 Holds (ListingOf table calls buffer listed) = listedOf (runOf (startOf table 0) calls) buffer ≡ listed
 Holds (Waits table calls bytes) = bytesOf (runOf (startOf table 0) calls .ready .lists) ≡ bytes
 Holds (Promotes new lists bytes) = bytesOf (promoted new (most - 1) 2 lists) ≡ bytes
@@ -128,25 +137,32 @@ cases =
     ∷ ListingOf four [] [] (record { verdict = Passed; waiting = 0; buffer = [] })
     -- the clock takes task 3 from level 3 to level 2, behind task 2
     ∷ Waits example (Release 0 1 ∷ Release 0 2 ∷ Release 0 3 ∷ Clock 3 ∷ []) (2 ∷ 2 ∷ 2 ∷ 3 ∷ [])
+    ∷ Waits example (Release 0 1 ∷ Release 0 2 ∷ Release 0 3 ∷ Clock 3 ∷ Clock 5 ∷ []) (1 ∷ 2 ∷ 2 ∷ 3 ∷ [])
     -- a released job goes to the end of its list, and the preempted one to the front
     ∷ Waits late (Release 0 2 ∷ Release 0 3 ∷ Release 0 4 ∷ []) (2 ∷ 3 ∷ 2 ∷ 4 ∷ [])
     ∷ Waits late (Release 0 2 ∷ Release 0 3 ∷ Release 0 1 ∷ []) (2 ∷ 2 ∷ 2 ∷ 3 ∷ [])
     -- the lowest-numbered list gives who runs next
     ∷ LineOf example 0 (Release 0 1 ∷ Release 0 2 ∷ Release 0 3 ∷ []) (Done 1 1) (line 1 0 2 0 1 (Ticks (pos 1)))
+    -- an answer names who runs after the call
+    ∷ Answers example (Release 0 2 ∷ []) (Release 0 3) (Accepted (One 2) 0 None)
     -- a refused call leaves the last reading: 2 is after the 0 of the start
     ∷ LineOf one 0 (Release 3 2 ∷ []) (Clock 2) (line 1 0 0 0 0 None)
     -- a long step passes several promotions, and earlier lists go first
     ∷ Promotes (λ k. 1) (put (put (λ l. []) 2 (2 ∷ [])) 3 (3 ∷ 4 ∷ [])) (1 ∷ 2 ∷ 1 ∷ 3 ∷ 1 ∷ 4 ∷ [])
+    -- a refused start hands back a block of zeros; a task that is not in the table has no plan
+    ∷ Starts [] 5 (record { verdict = Failed TableSize; state = startOf [] 0 })
+    ∷ PlanAsked example 3 (record { verdict = Passed; points = point 3 2 ∷ point 8 1 ∷ [] })
+    ∷ PlanAsked example 4 (record { verdict = Failed NoSuchTask; points = [] })
     -- of equal deadlines, the earlier release call
     ∷ Precedes (record { task = 2; deadline = 10; call = 1 }) (record { task = 1; deadline = 10; call = 2 })
     ∷ []
 
 pub cases-hold : All Holds cases
-unfolding planLines firstLevel planOf pointsBelow largestBelow verdictOf tasksTests runOf stepOf testsOf firstOf timeAfter elapsedOf wentBack tooFar movesOf lowest listing listedOf bytesOf pairsOf promoted drained joined those count sum levelOf remainingOf
+unfolding startedOf plannedOf planLines firstLevel planOf pointsBelow largestBelow verdictOf tasksTests runOf stepOf testsOf firstOf timeAfter elapsedOf wentBack tooFar movesOf lowest listing listedOf bytesOf pairsOf promoted drained joined those count sum levelOf remainingOf
 cases-hold =
     (refl, (refl, (refl, (λ table. level-none table 0 0 (omega arith), (λ table. level-none table 0 3 (omega arith), (plan-alone, computed))))))
   where
     -- the rest computes
     computed : All Holds (behind (behind (behind (behind (behind (behind cases))))))
     computed =
-        (refl, (refl, (refl, (refl, (refl, (refl, (refl, (refl, (refl, (refl, (refl, (refl, (refl, (refl, (refl, (refl, (refl, (refl, (refl, (refl, (refl, (refl, (refl, (refl, (refl, (refl, (refl, (refl, (refl, (refl, (refl, (refl, (refl, (refl, (refl, tt)))))))))))))))))))))))))))))))))))
+        (refl, (refl, (refl, (refl, (refl, (refl, (refl, (refl, (refl, (refl, (refl, (refl, (refl, (refl, (refl, (refl, (refl, (refl, (refl, (refl, (refl, (refl, (refl, (refl, (refl, (refl, (refl, (refl, (refl, (refl, (refl, (refl, (refl, (refl, (refl, (refl, (refl, (refl, (refl, (refl, tt))))))))))))))))))))))))))))))))))))))))

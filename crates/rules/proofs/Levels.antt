@@ -16,7 +16,7 @@ use Rattle.laws.proofs.Signed.{below-less}
 use Rattle.rules.specs.Table.{Task, taskAt, isTask, deadlines}
 use Rattle.rules.specs.Levels.{remainingOf, smaller, levelOf, levelAt, firstLevel}
 
--- a task of deadline d has its D end before the absolute deadline a, counted from time b on
+-- what starts at time b with relative deadline d is due before a
 abbrev ends : ℕ → ℕ → ℕ → Bool
 ends a b d = ltb (b + d) a
 
@@ -62,13 +62,10 @@ level-first table k b = level-below table (b + taskAt table k .d) b (taskAt tabl
 
 -- ---- tasks of the table
 
-pub task-place : (table : List Task) (k : ℕ) → isTask table k ≡ true → (1 ≤ k) × (k ≤ length table)
-task-place table k e = both-le e
-
 module _ (table : List Task) (k : ℕ) (task : isTask table k ≡ true) where
   pub deadline-in : In (taskAt table k .d) (deadlines table)
   deadline-in =
-      let h : (1 ≤ k) × (k ≤ length table) = task-place table k task in
+      let h : (1 ≤ k) × (k ≤ length table) = both-le task in
       in-map (λ (x : Task). x .d) (taskAt table k) table (getD-in table (k - 1) (record { c = 0; d = 0; t = 0 }) (omega arith))
 
   -- a job released in the past has one of as many levels as there are tasks

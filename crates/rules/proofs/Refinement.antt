@@ -9,7 +9,7 @@ use Rattle.rules.specs.State.{Running, State}
 use Rattle.rules.specs.Calls.{Call, Answer, Accepted, Margin, startOf, testsOf, stepOf}
 use Rattle.rules.specs.Histories.{Event, Seen, runOf, eventsOf, seenAtStart, seenAfter, fallsOf, totalOf, boundOf}
 use Rattle.rules.specs.Demands.{Exactly, verdictIn, Demand2, stateAfter, seen}
-use Rattle.rules.proofs.Theorems.{demand-1, demand-2, demand-3}
+use Rattle.rules.proofs.Theorems.{demand-1, answer-running, demand-2, demand-3}
 
 module _ {B : Type 0} (W : B → Type 0) (view : B → State) (next : B → Call → B) (answer : B → Call → Answer) (keeps : (b : B) (c : Call) → W b → W (next b c))
     (same-state : (b : B) (c : Call) → W b → view (next b c) ≡ stepOf (view b) c .state) (same-answer : (b : B) (c : Call) → W b → answer b c ≡ stepOf (view b) c .answer) where
@@ -41,6 +41,10 @@ module _ {B : Type 0} (W : B → Type 0) (view : B → State) (next : B → Call
   -- demand 1, of any whole block
   pub block-exactly : (b : B) (c : Call) → W b → Exactly (testsOf (view b) c) (verdictIn (answer b c))
   block-exactly b c w = rw (same-answer b c w) (demand-1 (view b) .exactly c)
+
+  -- its accepted answers name who runs
+  pub block-named : (b : B) (c : Call) (r : Running) (m : ℕ) (g : Margin) → W b → answer b c ≡ Accepted r m g → view (next b c) .ready .running ≡ r
+  block-named b c r m g w e = rw (same-state b c w) (answer-running (view b) c r m g (sym (same-answer b c w) ∙ e))
 
   -- demands 2 and 3, of a block that a start gave
   module _ (table : List Task) (n : ℕ) (sound : verdictOf table ≡ Passed) (b : B) (whole : W b) (start : view b ≡ startOf table n) (cs : List Call) where

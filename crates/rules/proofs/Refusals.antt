@@ -7,7 +7,7 @@ use native.Mathlib.Decide.{decLt}
 use native.Mathlib.Omega.{arith}
 use borrow.Author.Tests.{eqb-true, eq-eqb, ltb-true, ltb-false, lt-ltb, le-ltb, leb-true, leb-false, le-leb, lt-leb}
 use Rattle.laws.specs.Words.{behind}
-use Rattle.laws.proofs.Bools.{true-false, both-le, le-both}
+use Rattle.laws.proofs.Bools.{clash, true-false, both-le, le-both}
 use Rattle.rules.specs.Numbers.{Refusal, TableSize, OutOfRange, OutOfOrder, Overload, CounterWentBack, ClockFull, NoSuchTask, TaskActive, TooSoon, NotRunning, BufferTooShort}
 use Rattle.rules.specs.Numbers.{Test, refuse, Verdict, Passed, Failed, firstOf}
 use Rattle.rules.specs.Table.{Task, taskAt, isTask}
@@ -18,7 +18,7 @@ use Rattle.rules.specs.Refusals.{InTable, Gives, Accepts, OnTime, Early,
 use Rattle.rules.proofs.Verdicts.{passed-failed, verdict-cases, none-passed, none-failed, Asks, as-it-is, asks-for, asks-less, asks-passes, asks-holds, asks-passed, asks-failed}
 
 pub accepted-refused : {X : Type 0} {a : Answer} {r : Running} {m : ℕ} {g : Margin} {x : Refusal} → a ≡ Accepted r m g → a ≡ Refused x → X
-accepted-refused p q = let z : _≡_ {A = ℕ} 0 1 = cc in let n : ⊥ = omega arith in absurd n
+accepted-refused p q = clash cc
 
 refused-same : {r q : Refusal} → Refused r ≡ Refused q → r ≡ q
 refused-same e = cc
@@ -45,7 +45,7 @@ soon-asked Never t time =
     record { passed = λ f w. never (w .0) (w .1); passes = λ h. refl; held = λ h. true-false false h refl; holds = λ w. never (w .0) (w .1) }
   where
     never : {X : Type 0} (r : ℕ) → Never ≡ At r → X
-    never r e = let z : _≡_ {A = ℕ} 0 1 = cc in let n : ⊥ = omega arith in absurd n
+    never r e = clash cc
 soon-asked (At q) t time =
     record {
       passed = λ f w. let l : q + t ≤ time = ltb-false _ _ f in omega (arith, same (w .0) (w .1), w .2);
