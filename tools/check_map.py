@@ -1,5 +1,5 @@
 #!/usr/bin/env python3
-"""Checks docs/DEMANDS.md, the map from the paper's sentences to definitions, theorems, must-fail edits and cases.
+"""Checks docs/DEMANDS.md, the map from the paper's sentences to definitions, code, theorems, must-fail edits and cases.
 
   tools/check_map.py        exit 0: the map is true of the tree; 1: what is wrong, a line each; 2: wrong use
 
@@ -7,8 +7,10 @@ A mark of the map is a text in `..` of one of these forms. The crate may stand i
   specs/Clock                         a file
   specs/Clock.elapsedOf               a name that the file declares: a definition, a law, a data type, a record, a field, a constructor
   proofs/Cases#Elapsed 4294967290     a text that stands in the file
+  clock/src/lib.advance               a function, a struct, an enum or a constant of a file of code
   must-fail/zero_moves                a must-fail edit
-Each mark must exist. And the map must be complete: every definition of the rules' specs/ and every must-fail edit stands in it.
+Each mark must exist. And the map must be complete: every definition of a crate's specs/ (laws, the words, apart), every public function
+and every must-fail edit stands in it. A function that returns something and says nothing of it (`ensures`) is wrong too.
 """
 import pathlib
 import re
@@ -16,10 +18,12 @@ import sys
 
 ROOT = pathlib.Path(__file__).resolve().parent.parent
 MAP = ROOT / "docs" / "DEMANDS.md"
-MARK = re.compile(r"`(?:([a-z0-9_]+)/)?(specs|proofs|must-fail)/([^`]+)`")
+MARK = re.compile(r"`(?:([a-z0-9_]+)/)?(specs|proofs|src|must-fail)/([^`]+)`")
 NAME = r"([^\s:(){}.;,]+)"
 DECLARES = re.compile(r"^\s*(?:(?:unfoldable|abbrev|pub|data|record) )*" + NAME + r"(?= |$)")
 DEFINES = re.compile(r"^ *(?:unfoldable |abbrev )?pub (?:record |data )?" + NAME + " ")
+ITEM = re.compile(r"^ *(?:pub )?(?:fn|struct|enum|const) (\w+)", re.M)
+FUNCTION = re.compile(r"^ *(?:pub )?fn (\w+)\((?:[^{]|\n)*?-> [^{\n]+?(?: \{$|\n((?:.*\n)*?) *\{$)", re.M)
 
 
 def lines(path):
@@ -28,6 +32,8 @@ def lines(path):
 
 def declared(path):
     """Every name that the file declares, its records' fields and its data types' constructors among them."""
+    if path.suffix == ".rt":
+        return set(ITEM.findall(path.read_text()))
     found = (DECLARES.match(line) for line in lines(path) if " : " in line or line.endswith(" where"))
     return {m.group(1) for m in found if m}
 
@@ -49,10 +55,10 @@ def fault(crate, part, rest):
     folder = ROOT / "crates" / (crate or "rules") / part
     if part == "must-fail":
         return "" if (folder / f"{rest}.edit").is_file() else "no such must-fail edit"
-    m = re.fullmatch(r"([A-Za-z0-9/]+)(?:([.#])(.+))?", rest)
+    m = re.fullmatch(r"([A-Za-z0-9_/]+)(?:([.#])(.+))?", rest)
     if not m:
         return "not a mark"
-    path = folder / f"{m.group(1)}.antt"
+    path = folder / (m.group(1) + (".rt" if part == "src" else ".antt"))
     if not path.is_file():
         return "no such file"
     if m.group(2) == "." and m.group(3) not in declared(path):
@@ -63,12 +69,22 @@ def fault(crate, part, rest):
 
 
 def missing(marks):
-    """The must-fail edits, and the definitions of the rules, that no mark names."""
+    """The must-fail edits, the definitions and the public functions that no mark names."""
     here = {f"{crate or 'rules'}/{part}/{rest}" for crate, part, rest in marks}
     wanted = [f"{e.parent.parent.name}/must-fail/{e.stem}" for e in sorted(ROOT.glob("crates/*/must-fail/*.edit"))]
-    for path in sorted((ROOT / "crates/rules/specs").glob("*.antt")):
-        wanted += [f"rules/specs/{path.stem}.{name}" for name in defined(path)]
+    for path in sorted(ROOT.glob("crates/*/specs/*.antt")):
+        crate = path.parent.parent.name
+        wanted += [f"{crate}/specs/{path.stem}.{name}" for name in defined(path) if crate != "laws"]
+    for path in sorted(ROOT.glob("crates/*/src/*.rt")):
+        names = re.findall(r"^ *pub fn (\w+)", path.read_text(), re.M)
+        wanted += [f"{path.parent.parent.name}/src/{path.stem}.{name}" for name in names]
     return [mark for mark in wanted if mark not in here]
+
+
+def silent():
+    """The functions that return something and have no `ensures`."""
+    return [f"{path.relative_to(ROOT)}: {m.group(1)} says nothing of what it returns" for path in sorted(ROOT.glob("crates/*/src/*.rt"))
+            for m in FUNCTION.finditer(path.read_text()) if "ensures" not in (m.group(2) or "")]
 
 
 def main():
@@ -79,12 +95,12 @@ def main():
         print("tools/check_map.py: docs/DEMANDS.md is missing", file=sys.stderr)
         return 2
     marks = MARK.findall(MAP.read_text())
-    wrong = [f"{why}: {part}/{rest}" for crate, part, rest in marks if (why := fault(crate, part, rest))]
-    wrong += [f"not in the map: {mark}" for mark in missing(marks)]
+    wrong = [f"docs/DEMANDS.md: {why}: {crate and crate + '/'}{part}/{rest}" for crate, part, rest in marks if (why := fault(crate, part, rest))]
+    wrong += [f"docs/DEMANDS.md: not in the map: {mark}" for mark in missing(marks)] + silent()
     for line in wrong:
-        print(f"docs/DEMANDS.md: {line}")
+        print(line)
     if not wrong:
-        print(f"docs/DEMANDS.md: {len(marks)} marks, all true; every definition of the rules and every must-fail edit stands in it")
+        print(f"docs/DEMANDS.md: {len(marks)} marks, all true; every definition, public function and must-fail edit stands in it")
     return 1 if wrong else 0
 
 

@@ -1,11 +1,11 @@
 -- Tests and their digits. Assumes nothing.
 use mathlib.Core.Path.{_≡_, refl, sym, ap}
-use mathlib.Core.Bool.{Bool, true, false, _&&_}
-use Prim.Native.Nat.{ℕ, _≤_}
+use mathlib.Core.Bool.{Bool, true, false, not, _&&_}
+use Prim.Native.Nat.{ℕ, suc, _+_, _≤_}
 use native.Mathlib.Omega.{arith}
-use borrow.Author.Tests.{leb-true, le-leb}
-use lib.Dec.{leb}
-use Rattle.laws.specs.Words.{digit}
+use borrow.Author.Tests.{ltb-true, ltb-false, leb-true, lt-ltb, le-ltb, le-leb, not-true}
+use lib.Dec.{leb, ltb}
+use Rattle.laws.specs.Words.{Decides, digit}
 
 pub digit-le : (b : Bool) → digit b ≤ 1
 digit-le true = omega arith
@@ -32,6 +32,16 @@ same-test true b h g = sym (h refl)
 same-test false true h g = g refl
 same-test false false h g = refl
 
+pub not-less : (a b : ℕ) → not (ltb a b) ≡ ltb b (suc a)
+not-less a b =
+    same-test (not (ltb a b)) (ltb b (suc a)) (λ t. let l = ltb-false a b (not-true (ltb a b) t) in lt-ltb b (suc a) (omega arith))
+    (λ t. let l = ltb-true b (suc a) t in ap not (le-ltb a b (omega arith)))
+
+pub less-more : (a b : ℕ) → ltb a b ≡ ltb (suc a) (1 + b)
+less-more a b =
+    same-test (ltb a b) (ltb (suc a) (1 + b)) (λ t. let l = ltb-true a b t in lt-ltb (suc a) (1 + b) (omega arith))
+    (λ t. let l = ltb-true (suc a) (1 + b) t in lt-ltb a b (omega arith))
+
 pub both-true : (a b : Bool) → a && b ≡ true → (a ≡ true) × (b ≡ true)
 both-true true b e = (refl, e)
 both-true false b e = true-false false e refl
@@ -54,3 +64,15 @@ module _ {A : Type 0} (b : Bool) where
       go : (t : Bool) → b ≡ t → t ≡ false
       go true e = absurd (g (h e))
       go false e = refl
+
+-- of two that hold together, a test that tells one tells the other
+pub decides-same : (A B : Type 0) (b : Bool) → (A → B) → (B → A) → Decides b A → Decides b B
+decides-same A B true f g d = f d
+decides-same A B false f g d = λ x. d (g x)
+
+-- and one test tells whether it holds
+pub decides-one : (A : Type 0) (a b : Bool) → Decides a A → Decides b A → a ≡ b
+decides-one A true true d e = refl
+decides-one A true false d e = absurd (e d)
+decides-one A false true d e = absurd (d e)
+decides-one A false false d e = refl

@@ -3,11 +3,14 @@ use mathlib.Core.Path.{_≡_, refl, sym, ap, ap₂, _∙_, subst}
 use mathlib.Core.Bool.{Bool, true, false}
 use mathlib.Core.Logic.{inl, inr, ⊎-elim}
 use mathlib.Core.List.{List, [], _∷_, _++_, append-nil}
-use Prim.Native.Nat.{ℕ, zero, suc, _+_, _≤_, _<_}
+use Prim.Native.Nat.{ℕ, zero, suc, _+_, _-_, _*_, _≤_, _<_}
 use native.Mathlib.Decide.{ℕ-discrete}
 use native.Mathlib.Omega.{arith}
+use native.Mathlib.Nat.{mul-suc}
+use native.Mathlib.Numerals.{add-one}
 use borrow.Author.Tests.{eq-eqb, ne-eqb, eqb-true, eqb-false, ltb-true}
 use lib.Dec.{eqb, ltb}
+use lib.ListN.{length, length-append}
 use Rattle.laws.specs.Words.{pick, those, In, Sorted, inserted, put, grouped, joined}
 use Rattle.laws.proofs.Counts.{those-none, those-all, those-same, those-append}
 use Rattle.laws.proofs.Orders.{in-append, sorted-append, those-inserted-out}
@@ -117,6 +120,20 @@ module _ {X : Type 0} where
       ∙ ap (λ (w : List X). x ∷ w) (joined-grouped key q n k (r .1) (λ y m. h y (inr m)))
 
   module _ (lists : ℕ → List X) where
+    -- the lists from the one at l up to that before m
+    pub joined-turn : (m l : ℕ) → l < m → joined lists (m - l) l ≡ lists l ++ joined lists (m - (l + 1)) (l + 1)
+    unfolding joined
+    joined-turn m l h = let e : m - l ≡ suc (m - suc l) = omega arith in rw (add-one l, e)
+
+    pub joined-over : (m l : ℕ) → m ≤ l → joined lists (m - l) l ≡ []
+    unfolding joined
+    joined-over m l h = let e : m - l ≡ 0 = omega arith in rw e
+
+    pub joined-few : (b n k : ℕ) → ((j : ℕ) → length (lists j) ≤ b) → length (joined lists n k) ≤ b * n
+    unfolding joined
+    joined-few b zero k h = omega arith
+    joined-few b (suc n) k h = omega (arith, length-append (lists k) (joined lists n (suc k)), h k, joined-few b n (suc k) h, mul-suc b n)
+
     pub in-joined : (y : X) (n k : ℕ) → In y (joined lists n k) → (j : ℕ) × (k ≤ j) × In y (lists j)
     unfolding joined
     in-joined y zero k m = absurd m

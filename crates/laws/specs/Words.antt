@@ -7,12 +7,17 @@ use mathlib.Core.List.{List, [], _∷_, _++_}
 use lib.Dec.{eqb}
 use lib.ListN.{length, drop}
 
--- ---- choosing and counting
+-- ---- choosing, deciding and counting
 
 -- the first where the test holds, else the second
 abbrev pub pick : {X : Type 0} → Bool → X → X → X
 pick true a b = a
 pick false a b = b
+
+-- the test tells whether A holds
+abbrev pub Decides : Bool → Type 0 → Type 0
+Decides true A = A
+Decides false A = A → ⊥
 
 -- 1 where the test holds, else 0
 abbrev pub digit : Bool → ℕ

@@ -76,6 +76,21 @@ pub data Verdict : Type 0 where
   Passed : Verdict
   Failed : Refusal → Verdict
 
+-- "0 or refusal number"
+abbrev pub numberIn : Verdict → ℕ
+numberIn Passed = 0
+numberIn (Failed r) = numberOf r
+
+-- the task of a value; 0 where there is none
+abbrev pub givenTask : Value → ℕ
+givenTask Nothing = 0
+givenTask (OfTask k) = k
+
+-- the task with it
+abbrev pub taskWith : Verdict → ℕ
+taskWith Passed = 0
+taskWith (Failed r) = givenTask (valueOf r)
+
 -- the refusal of the first test whose condition holds
 unfoldable pub firstOf : List Test → Verdict
 firstOf [] = Passed

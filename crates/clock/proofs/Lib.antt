@@ -1,0 +1,2 @@
+-- Laws of the clock's answer.
+pub mod Answers

@@ -1,0 +1,2 @@
+-- What the contracts of `clock` cite beside the rules.
+pub mod Advance

@@ -1,0 +1,15 @@
+-- Laws of lists stored as links.
+pub mod Few
+pub mod Links
+pub mod Storage
+pub mod Walks
+pub mod Determined
+pub mod Operations
+pub mod Lowest
+pub mod Rests
+pub mod Passes
+pub mod Apart
+pub mod Marks
+pub mod Seeing
+pub mod Deciding
+pub mod Results

@@ -1,0 +1,88 @@
+-- Two results that a contract allows are equal: each contract of the crate determines what it returns. Assumes nothing.
+use mathlib.Core.Path.{_≡_, refl, sym, ap, ap₂, _∙_}
+use mathlib.Core.Bool.{Bool}
+use mathlib.Core.List.{List}
+use Prim.Native.Nat.{ℕ, _<_, _^_}
+use Rattle.laws.specs.Words.{Decides, pick}
+use Rattle.laws.specs.Bits.{BitMade}
+use Rattle.laws.proofs.Bools.{decides-one}
+use Rattle.laws.proofs.Bits.{made-one}
+use Rattle.rules.specs.Table.{most}
+use Rattle.rules.specs.State.{Running, Nobody, One}
+use Rattle.lists.specs.declared.Lists.{Lists}
+use Rattle.lists.specs.declared.Popped.{Popped}
+use Rattle.lists.specs.declared.Who.{Who}
+use Rattle.lists.specs.declared.Who.the-variants as Who
+use Rattle.lists.specs.declared.test.Gone.{Gone}
+use Rattle.lists.specs.Links.{Stores}
+use Rattle.lists.specs.Answers.{whoIn, PopsFrom, Holds, ListedFrom}
+use Rattle.lists.specs.Test.{listAt, marked, Went}
+use Rattle.lists.proofs.Storage.{Sized}
+use Rattle.lists.proofs.Determined.{arrays-one}
+
+-- an answer that says the same is the same
+who-said : Running → Who
+who-said Nobody = Who.Nobody
+who-said (One k) = Who.One (record { 0 = k })
+
+who-same : (a : Who) → who-said (whoIn a) ≡ a
+unfolding who-said
+who-same Who.Nobody = refl
+who-same (Who.One k) = refl
+
+pub who-one : (a b : Who) → whoIn a ≡ whoIn b → a ≡ b
+who-one a b e = sym (who-same a) ∙ ap who-said e ∙ who-same b
+
+-- `requires` says that there are lists; `ensures` speaks of any
+module _ {s : Lists} (h : Holds s) where
+  -- push_front, push_back, move_front
+  pub lists-result : (f : (ℕ → List ℕ) → ℕ → List ℕ) (a b : Lists) → Sized a → Sized b
+      → ((ls : ℕ → List ℕ) → Stores s ls → Stores a (f ls)) → ((ls : ℕ → List ℕ) → Stores s ls → Stores b (f ls)) → a ≡ b
+  lists-result f a b sa sb p q = arrays-one sa sb (p (h .lists) (h .stores)) (q (h .lists) (h .stores))
+
+  -- pop_front
+  pub pop-result : (l : ℕ) (a b : Popped) → Sized (a .lists) → Sized (b .lists)
+      → ((ls : ℕ → List ℕ) → Stores s ls → PopsFrom ls l a) → ((ls : ℕ → List ℕ) → Stores s ls → PopsFrom ls l b) → a ≡ b
+  pop-result l a b sa sb p q =
+      let c = p (h .lists) (h .stores) in
+      let d = q (h .lists) (h .stores) in
+      ap₂ (λ (w : Who) (r : Lists). record { front = w; lists = r }) (who-one (a .front) (b .front) (c .front ∙ sym (d .front)))
+      (arrays-one sa sb (c .stores) (d .stores))
+
+  -- front
+  pub front-result : (f : (ℕ → List ℕ) → Running) (a b : Who)
+      → ((ls : ℕ → List ℕ) → Stores s ls → whoIn a ≡ f ls) → ((ls : ℕ → List ℕ) → Stores s ls → whoIn b ≡ f ls) → a ≡ b
+  front-result f a b p q = who-one a b (p (h .lists) (h .stores) ∙ sym (q (h .lists) (h .stores)))
+
+  -- lowest, lowest_from, length_of, waiting
+  pub value-result : {X : Type 0} (f : (ℕ → List ℕ) → X) (a b : X)
+      → ((ls : ℕ → List ℕ) → Stores s ls → a ≡ f ls) → ((ls : ℕ → List ℕ) → Stores s ls → b ≡ f ls) → a ≡ b
+  value-result f a b p q = p (h .lists) (h .stores) ∙ sym (q (h .lists) (h .stores))
+
+  -- list_into, list_all: the place behind, and every byte of the buffer
+  pub listed-result : (f : (ℕ → List ℕ) → List ℕ) (before : List ℕ) (place a b : ℕ) (x y : List ℕ)
+      → ((ls : ℕ → List ℕ) → Stores s ls → ListedFrom before place (f ls) a x) → ((ls : ℕ → List ℕ) → Stores s ls → ListedFrom before place (f ls) b y)
+      → (a ≡ b) × (x ≡ y)
+  listed-result f before place a b x y p q =
+      let c = p (h .lists) (h .stores) in
+      let d = q (h .lists) (h .stores) in
+      (c .size ∙ sym (d .size), c .buffer ∙ sym (d .buffer))
+
+-- empty
+pub empty-result : (ls : ℕ → List ℕ) (a b : Lists) → Sized a → Sized b → Stores a ls → Stores b ls → a ≡ b
+empty-result ls a b = arrays-one
+
+-- holds_lists, and the tests that it is made of
+pub test-result : (A : Type 0) (a b : Bool) → Decides a A → Decides b A → a ≡ b
+test-result = decides-one
+
+-- with_bit, without_bit
+pub bit-result : (m k v a b : ℕ) → a < 2 ^ most → b < 2 ^ most → BitMade m k v a → BitMade m k v b → a ≡ b
+bit-result m k v a b = made-one most m k v a b
+
+-- go_along
+pub gone-result : (s : Lists) (l : ℕ) (before : List Bool) (a b : Gone) → Went s l before a → Went s l before b → a ≡ b
+gone-result s l before a b p q =
+    let ok : a .ok ≡ b .ok = p .ok ∙ sym (q .ok) in
+    ap₂ (λ (t : Bool) (seen : List Bool). record { ok = t; seen = seen }) ok
+    (p .seen ∙ ap (λ (t : Bool). pick t (marked before (listAt s l)) before) ok ∙ sym (q .seen))

@@ -1,0 +1,4 @@
+-- What the contracts of `lists` cite beside the rules.
+pub mod Links
+pub mod Answers
+pub mod Test

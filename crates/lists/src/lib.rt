@@ -1,0 +1,208 @@
+// The ready lists (document 003, 4.2.1): for each level the jobs that wait there, in their order, singly linked; and a map of the lists
+// that hold one. A job is its task's number, 1 to MOST; 0 is nobody.
+//
+//      level    first   last       next, by task: who stands behind
+//        1      [ 3 ]   [ 5 ]      3 -> 7 -> 5 -> 0
+//        2      [ 0 ]   [ 0 ]
+//        3      [ 2 ]   [ 2 ]      2 -> 0
+//        ..     [ 0 ]   [ 0 ]      of those who wait nowhere: 0
+//
+//        map    ..00101            bit 0 is level 1; set where the list holds a job
+//
+// Place 0 of each array is nobody's and holds 0, so a number is a place. Every place is told by the lists: so the lists determine the
+// arrays and the map, and these the lists (proofs/Determined).
+//
+//      empty, push_front, push_back, pop_front, move_front, front, lowest, lowest_from      O(1)
+//      length_of, list_into                   a step for each job of the list
+//      waiting, list_all, holds_lists         a step for each level and each job
+//
+// Contracts speak of lists of numbers: whatever lists `ls` are stored, they say what is answered and which lists are stored afterwards.
+// The fields are private, so nothing above this crate names a link or a bit.
+ghost use mathlib.Core.Path.{_≡_};
+ghost use mathlib.Core.List.{List, []};
+ghost use Prim.Native.Nat.{ℕ, suc, _-_};
+ghost use Rattle.laws.specs.Bits.{BitMade};
+ghost use Rattle.rules.specs.Table.{most};
+ghost use Rattle.rules.specs.Calls.{toFront, toEnd, frontOf, lowest};
+ghost use Rattle.lists.specs.Links.{Stores, Numbered};
+ghost use Rattle.lists.specs.Answers.{whoIn, foundAt, PopsFrom, frontMoved, Holds, HoldsAt, MayEnter};
+use table::Level;
+use table::MOST;
+use table::TaskNo;
+
+mod walk; // length_of, waiting, list_into, list_all
+mod test; // holds_lists
+
+// A place for each task and each level, and place 0.
+const PLACES: usize = MOST + 1;
+
+pub struct Lists {
+    first: [TaskNo; PLACES],
+    last: [TaskNo; PLACES],
+    next: [TaskNo; PLACES],
+    map: u32,
+}
+
+// "nobody, or one task"
+pub enum Who {
+    Nobody,
+    One(TaskNo),
+}
+
+// A level, where there is one.
+pub enum Found {
+    Nothing,
+    At(Level),
+}
+
+pub struct Popped {
+    pub front: Who,
+    pub lists: Lists,
+}
+
+// The map with the bit of the level set.
+fn with_bit(map: u32, level: Level) -> u32
+    requires { ⌜ Numbered (level .0) ⌝ }
+    ensures { λ r. ⌜ BitMade map (level .0 - 1) 1 r ⌝ }
+{
+    map | (1u32 << (level.0 - 1))
+}
+
+// The map with the bit of the level clear.
+fn without_bit(map: u32, level: Level) -> u32
+    requires { ⌜ Numbered (level .0) ⌝ }
+    ensures { λ r. ⌜ BitMade map (level .0 - 1) 0 r ⌝ }
+{
+    map & !(1u32 << (level.0 - 1))
+}
+
+impl Lists {
+    // All lists empty.
+    pub fn empty() -> Lists
+        ensures { λ r. ⌜ Stores r (λ l. []) ⌝ }
+    {
+        Lists {
+            first: [TaskNo(0); PLACES],
+            last: [TaskNo(0); PLACES],
+            next: [TaskNo(0); PLACES],
+            map: 0,
+        }
+    }
+
+    // The task goes ahead of all in the list of the level.
+    pub fn push_front(mut self, level: Level, task: TaskNo) -> Lists
+        requires { ⌜ MayEnter self (level .0) (task .0) ⌝ }
+        ensures { λ r. ⌜ ((ls : ℕ → List ℕ) → Stores self ls → Stores r (toFront ls (level .0) (task .0))) ⌝ }
+    {
+        let l = level.0 as usize;
+        let x = task.0 as usize;
+        let second = self.first[l];
+        self.first[l] = task;
+        self.next[x] = second;
+        if second.0 == 0 {
+            self.last[l] = task; // its last too
+            self.map = with_bit(self.map, level);
+            return self;
+        }
+        self
+    }
+
+    // The task goes behind all in the list of the level.
+    pub fn push_back(mut self, level: Level, task: TaskNo) -> Lists
+        requires { ⌜ MayEnter self (level .0) (task .0) ⌝ }
+        ensures { λ r. ⌜ ((ls : ℕ → List ℕ) → Stores self ls → Stores r (toEnd ls (level .0) (task .0))) ⌝ }
+    {
+        let l = level.0 as usize;
+        let end = self.last[l];
+        let z = end.0 as usize;
+        self.last[l] = task;
+        if z == 0 {
+            self.first[l] = task;
+            self.map = with_bit(self.map, level);
+            return self;
+        }
+        self.next[z] = task;
+        self
+    }
+
+    // The front job of the list of the level leaves it.
+    pub fn pop_front(mut self, level: Level) -> Popped
+        requires { ⌜ HoldsAt self (level .0) ⌝ }
+        ensures { λ r. ⌜ ((ls : ℕ → List ℕ) → Stores self ls → PopsFrom ls (level .0) r) ⌝ }
+    {
+        let l = level.0 as usize;
+        let head = self.first[l];
+        let x = head.0 as usize;
+        if x == 0 {
+            return Popped {
+                front: Who::Nobody,
+                lists: self,
+            };
+        }
+        let after = self.next[x];
+        let nobody = TaskNo(0);
+        self.first[l] = after;
+        self.next[x] = nobody;
+        if after.0 == 0 {
+            self.last[l] = nobody;
+            self.map = without_bit(self.map, level);
+            return Popped {
+                front: Who::One(head),
+                lists: self,
+            };
+        }
+        Popped {
+            front: Who::One(head),
+            lists: self,
+        }
+    }
+
+    // Promotion's inner step: the front job of one list goes to the end of another.
+    pub fn move_front(self, from: Level, to: Level) -> Lists
+        requires { ⌜ HoldsAt self (from .0) × Numbered (to .0) ⌝ }
+        ensures { λ r. ⌜ ((ls : ℕ → List ℕ) → Stores self ls → Stores r (frontMoved ls (from .0) (to .0) (ls (from .0)))) ⌝ }
+    {
+        let popped = self.pop_front(from);
+        let front = popped.front;
+        let rest = popped.lists;
+        match front {
+            Who::Nobody => rest,
+            Who::One(task) => rest.push_back(to, task),
+        }
+    }
+
+    // Who is ahead of all in the list of the level.
+    pub fn front(self, level: Level) -> Who
+        requires { ⌜ HoldsAt self (level .0) ⌝ }
+        ensures { λ r. ⌜ ((ls : ℕ → List ℕ) → Stores self ls → whoIn r ≡ frontOf (ls (level .0))) ⌝ }
+    {
+        let l = level.0 as usize;
+        let head = self.first[l];
+        if head.0 == 0 {
+            return Who::Nobody;
+        }
+        Who::One(head)
+    }
+
+    // The lowest level, from this one up, whose list holds a job.
+    pub fn lowest_from(self, level: Level) -> Found
+        requires { ⌜ HoldsAt self (level .0) ⌝ }
+        ensures { λ r. ⌜ ((ls : ℕ → List ℕ) → Stores self ls → r ≡ foundAt (lowest ls (suc most - level .0) (level .0))) ⌝ }
+    {
+        let above = self.map >> (level.0 - 1);
+        if above == 0 {
+            return Found::Nothing;
+        }
+        let zeros = u32::trailing_zeros(above) as u8;
+        let lowest = zeros + level.0;
+        Found::At(Level(lowest))
+    }
+
+    // "the lowest-numbered list that holds one"
+    pub fn lowest(self) -> Found
+        requires { ⌜ Holds self ⌝ }
+        ensures { λ r. ⌜ ((ls : ℕ → List ℕ) → Stores self ls → r ≡ foundAt (lowest ls most 1)) ⌝ }
+    {
+        self.lowest_from(Level(1))
+    }
+}
