@@ -23,7 +23,7 @@ fn elapsed(reading: u32, last: u32) -> u32
     std::num::wrapping_sub_u32(reading, last)
 }
 
-// The clock after a call that carries this reading, or why there is none: tests 5 and 6.
+// The clock after a call that carries this reading, or why there is none: tests 5 and 6. The clock is that of a whole block.
 pub fn advance(clock: u64, last: u32, reading: u32) -> Moved
     requires { ⌜ clock ≤ lastTick ⌝ }
     ensures { λ r. ⌜ saidBy r ≡ advanceOf clock last reading ⌝ }

@@ -74,6 +74,15 @@ module _ (m l : ℕ) (fits : m < 2 ^ most) (low : 1 ≤ l) (some : above m l ≡
       go (yes h) = let no : ⊥ = omega (arith, zeros-bit, bit-past most m (zeros + l - 1) fits (omega arith)) in absurd no
       go (no h) = omega arith
 
+-- the lowest set bit is the lowest occupied level
+pub lowest-bit : {s : Lists} {ls : ℕ → List ℕ} → Stores s ls → (k : ℕ) → k < most → LowestBit (s .map) k → lowest ls most 1 ≡ suc k
+lowest-bit {s} {ls} st k h low =
+    lowest-at ls most 1 (suc k) (omega arith) (omega arith) (bit-occupied st (suc k) (record { low = omega arith; high = omega arith }) (bit k (low .set)))
+    (λ j a b. bit-empty st j (record { low = a; high = omega arith }) (low .below (j - 1) (omega arith)))
+  where
+    bit : (j : ℕ) → bitAt (s .map) j ≡ 1 → bitAt (s .map) (suc j - 1) ≡ 1
+    bit j e = let p : suc j - 1 ≡ j = omega arith in ap (bitAt (s .map)) p ∙ e
+
 module _ {s : Lists} {ls : ℕ → List ℕ} (st : Stores s ls) (l : ℕ) (level : Numbered l) where
   -- below it no list is occupied
   empty-by : (j : ℕ) → l ≤ j → j ≤ most → bitAt (above (s .map) l) (j - l) ≡ 0 → occupied (ls j) ≡ false
