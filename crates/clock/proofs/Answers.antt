@@ -8,7 +8,7 @@ use Rattle.rules.specs.Numbers.{CounterWentBack, ClockFull, Passed, Failed, num
 use Rattle.rules.specs.Clock.{elapsedOf, wentBack, timeAfter, lastTick, tooFar}
 use Rattle.clock.specs.declared.Moved.{Moved}
 use Rattle.clock.specs.declared.Moved.the-variants as Says
-use Rattle.clock.specs.Advance.{Advanced, advanceOf, saidBy}
+use Rattle.clock.specs.Advance.{Advanced, advanceOf, advancedIn}
 
 module _ (clock last reading e : ℕ) (is : e ≡ elapsedOf reading last) where
   pub went-back : 2 ^ 31 ≤ e → advanceOf clock last reading ≡ record { verdict = Failed CounterWentBack; time = 0 }
@@ -27,11 +27,11 @@ module _ (clock last reading e : ℕ) (is : e ≡ elapsedOf reading last) where
 abbrev numbered : ℕ → ℕ → Moved
 numbered n time = pick (eqb n 0) (Says.To time) (pick (eqb n 5) Says.CounterWentBack Says.ClockFull)
 
-is-numbered : (a : Moved) → numbered (numberIn (saidBy a .verdict)) (saidBy a .time) ≡ a
+is-numbered : (a : Moved) → numbered (numberIn (advancedIn a .verdict)) (advancedIn a .time) ≡ a
 is-numbered (Says.To time) = refl
 is-numbered Says.CounterWentBack = refl
 is-numbered Says.ClockFull = refl
 
 -- an answer is determined by what it says
-pub moved-one : (a b : Moved) → saidBy a ≡ saidBy b → a ≡ b
+pub moved-one : (a b : Moved) → advancedIn a ≡ advancedIn b → a ≡ b
 moved-one a b e = sym (is-numbered a) ∙ ap (λ (x : Advanced). numbered (numberIn (x .verdict)) (x .time)) e ∙ is-numbered b

@@ -19,7 +19,7 @@ unfoldable pub advanceOf : ℕ → ℕ → ℕ → Advanced
 advanceOf clock last reading = advancedBy (timeAfter clock last reading) (firstOf (clockTests clock last reading))
 
 -- what an answer says
-abbrev pub saidBy : Moved → Advanced
-saidBy (Says.To time) = record { verdict = Passed; time = time }
-saidBy Says.CounterWentBack = record { verdict = Failed CounterWentBack; time = 0 }
-saidBy Says.ClockFull = record { verdict = Failed ClockFull; time = 0 }
+abbrev pub advancedIn : Moved → Advanced
+advancedIn (Says.To time) = record { verdict = Passed; time = time }
+advancedIn Says.CounterWentBack = record { verdict = Failed CounterWentBack; time = 0 }
+advancedIn Says.ClockFull = record { verdict = Failed ClockFull; time = 0 }

@@ -2,7 +2,7 @@
 ghost use mathlib.Core.Path.{_≡_};
 ghost use Prim.Native.Nat.{_≤_};
 ghost use Rattle.rules.specs.Clock.{elapsedOf, lastTick};
-ghost use Rattle.clock.specs.Advance.{advanceOf, saidBy};
+ghost use Rattle.clock.specs.Advance.{advanceOf, advancedIn};
 
 // "Elapsed 2^31 or more means that the counter went back"
 const HALF_TURN: u32 = 1 << 31;
@@ -10,6 +10,7 @@ const HALF_TURN: u32 = 1 << 31;
 // "may reach 2^40, no further"
 const LAST_TICK: u64 = 1 << 40;
 
+// The new time, or the test that fails: 5 or 6.
 pub enum Moved {
     To(u64),
     CounterWentBack,
@@ -26,7 +27,7 @@ fn elapsed(reading: u32, last: u32) -> u32
 // The clock after a call that carries this reading, or why there is none: tests 5 and 6. The clock is that of a whole block.
 pub fn advance(clock: u64, last: u32, reading: u32) -> Moved
     requires { ⌜ clock ≤ lastTick ⌝ }
-    ensures { λ r. ⌜ saidBy r ≡ advanceOf clock last reading ⌝ }
+    ensures { λ r. ⌜ advancedIn r ≡ advanceOf clock last reading ⌝ }
 {
     let ticks = elapsed(reading, last);
     if HALF_TURN <= ticks {

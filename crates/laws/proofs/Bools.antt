@@ -19,6 +19,10 @@ pub digit-true : (b : Bool) → 1 ≤ digit b → b ≡ true
 digit-true true h = refl
 digit-true false h = let z : ⊥ = omega arith in absurd z
 
+pub digit-false : (b : Bool) → digit b ≡ 0 → b ≡ false
+digit-false true h = let z : ⊥ = omega arith in absurd z
+digit-false false h = refl
+
 -- from equations that no value has: `clash cc`
 pub clash : {X : Type 0} → _≡_ {A = ℕ} 0 1 → X
 clash e = let z : ⊥ = omega arith in absurd z

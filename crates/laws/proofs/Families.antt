@@ -1,5 +1,5 @@
 -- Families of values and of lists: one place changed, grouped by a key, joined. Assumes nothing.
-use mathlib.Core.Path.{_≡_, refl, sym, ap, ap₂, _∙_, subst}
+use mathlib.Core.Path.{_≡_, refl, sym, ap, ap₂, _∙_, subst, fun-ext}
 use mathlib.Core.Bool.{Bool, true, false}
 use mathlib.Core.Logic.{inl, inr, ⊎-elim}
 use mathlib.Core.List.{List, [], _∷_, _++_, append-nil}
@@ -31,6 +31,10 @@ module _ {X : Type 0} (f : ℕ → X) (k : ℕ) (v : X) where
       go : (b : Bool) → eqb j k ≡ b → P j (pick b v (f j))
       go true e = subst (λ (i : ℕ). P i v) (sym (eqb-true j k e)) h
       go false e = g j (eqb-false j k e)
+
+-- a place that gets what it has is as it was
+pub put-same : {X : Type 0} (f : ℕ → X) (k : ℕ) (v : X) → f k ≡ v → put f k v ≡ f
+put-same f k v e = fun-ext (put-all f k v (λ j w. w ≡ f j) (sym e) (λ j d. refl))
 
 -- ---- grouped by a key
 

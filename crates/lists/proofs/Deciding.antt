@@ -19,7 +19,7 @@ use Rattle.table.specs.declared.TaskNo.{TaskNo}
 use Rattle.lists.specs.declared.Lists.{Lists}
 use Rattle.lists.specs.Links.{Numbered, Waits, Stores, Once, nobody, at, front, back, occupied}
 use Rattle.lists.specs.Answers.{Holds}
-use Rattle.lists.specs.Test.{listAt, allOf, none, seenAt, marked, Listed, MapTrue}
+use Rattle.lists.specs.Test.{listAt, allOf, none, seenAt, marked, ListsRight, MapTrue}
 use Rattle.lists.proofs.Few.{list-few}
 use Rattle.lists.proofs.Storage.{Sized}
 use Rattle.lists.proofs.Walks.{walk-end, walk-front, walk-occupied, walk-positive, walk-linked, lists-held}
@@ -44,7 +44,7 @@ bit-told s k = rw (add-one k) (ap digit (sym (walk-occupied (at (s .next)) (suc 
 
 -- ---- arrays that pass the test
 
-module _ {s : Lists} (sz : Sized s) (first-0 : at (s .first) 0 ≡ 0) (last-0 : at (s .last) 0 ≡ 0) (m : MapTrue s) (t : Listed s) where
+module _ {s : Lists} (sz : Sized s) (first-0 : at (s .first) 0 ≡ 0) (last-0 : at (s .last) 0 ≡ 0) (m : MapTrue s) (t : ListsRight s) where
   empty : (l : ℕ) → at (s .first) l ≡ 0 → listAt s l ≡ []
   empty l e = walk-end (at (s .next)) (suc (suc most)) (at (s .first) l) e
 
@@ -125,7 +125,7 @@ module _ {s : Lists} (h : Holds s) where
   task : (x : ℕ) → In x (allOf s) → x ≤ most
   task x m = let j = all-in (listAt s) x m in held .waits .task (j .0) x (j .1) .high
 
-  pub holds-listed : Listed s
+  pub holds-listed : ListsRight s
   unfolding listing
   holds-listed =
       record {

@@ -1,6 +1,6 @@
 -- Arrays and map determine the lists, and the lists determine arrays and map; what the map says. Assumes nothing.
-use mathlib.Core.Path.{_≡_, refl, sym, ap, _∙_, subst, fun-ext}
-use mathlib.Core.Bool.{Bool, true, false}
+use mathlib.Core.Path.{_≡_, sym, ap, _∙_, subst, fun-ext}
+use mathlib.Core.Bool.{true, false}
 use mathlib.Core.Logic.{_⊎_, inl, inr, ⊎-elim}
 use mathlib.Core.List.{List, [], _∷_}
 use Prim.Native.Nat.{ℕ, zero, suc, _-_, _<_}
@@ -10,7 +10,7 @@ use lib.ListN.{length}
 use lib.Seq.{ext-getD}
 use Rattle.laws.specs.Words.{digit, In}
 use Rattle.laws.specs.Bits.{bitAt}
-use Rattle.laws.proofs.Bools.{clash, digit-true}
+use Rattle.laws.proofs.Bools.{digit-true, digit-false}
 use Rattle.laws.proofs.Bits.{same-bits}
 use Rattle.rules.specs.Table.{most}
 use Rattle.table.specs.declared.TaskNo.{TaskNo}
@@ -95,8 +95,4 @@ module _ {s : Lists} {ls : ℕ → List ℕ} (st : Stores s ls) (l : ℕ) (level
   occupied-bit e = bit-is ∙ ap digit e
 
   pub bit-empty : bitAt (s .map) (l - 1) ≡ 0 → occupied (ls l) ≡ false
-  bit-empty e = go (occupied (ls l)) (sym bit-is ∙ e)
-    where
-      go : (b : Bool) → digit b ≡ 0 → b ≡ false
-      go true h = clash (sym h)
-      go false h = refl
+  bit-empty e = digit-false (occupied (ls l)) (sym bit-is ∙ e)

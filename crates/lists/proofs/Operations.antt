@@ -1,5 +1,5 @@
 -- The operations on arrays and map, as operations on lists. Assumes nothing.
-use mathlib.Core.Path.{_≡_, refl, sym, ap, _∙_, subst, fun-ext}
+use mathlib.Core.Path.{_≡_, refl, sym, ap, _∙_, subst}
 use mathlib.Core.Logic.{inl}
 use mathlib.Core.List.{List, [], _∷_}
 use Prim.Native.Nat.{ℕ, zero, suc, _-_, _≤_}
@@ -8,7 +8,7 @@ use lib.ListN.{getD, set, replicate}
 use Rattle.laws.specs.Words.{In, behind, put}
 use Rattle.laws.specs.Bits.{BitMade}
 use Rattle.laws.proofs.Bools.{clash}
-use Rattle.laws.proofs.Families.{put-all}
+use Rattle.laws.proofs.Families.{put-same, put-all}
 use Rattle.laws.proofs.Bits.{zero-bit}
 use Rattle.rules.specs.Table.{most}
 use Rattle.rules.specs.State.{Nobody, One}
@@ -17,9 +17,9 @@ use Rattle.table.specs.declared.TaskNo.{TaskNo}
 use Rattle.lists.specs.declared.Lists.{Lists}
 use Rattle.lists.specs.declared.Popped.{Popped}
 use Rattle.lists.specs.declared.Who.the-variants as Who
-use Rattle.lists.specs.Links.{Numbered, Once, nobody, at, front, back, Stores}
+use Rattle.lists.specs.Links.{Numbered, Once, nobody, at, front, Stores}
 use Rattle.lists.specs.Answers.{whoIn, MayEnter, PopsFrom, frontMoved}
-use Rattle.lists.proofs.Links.{back-in, front-none, push-front-first, push-front-more, push-back-first, push-back-more, pop-last, pop-more}
+use Rattle.lists.proofs.Links.{front-empty, front-most, back-most, push-front-first, push-front-more, push-back-first, push-back-more, pop-last, pop-more}
 use Rattle.lists.proofs.Storage.{Sized, at-set, stored-by, stores}
 use Rattle.lists.proofs.Determined.{enters-absent}
 
@@ -30,20 +30,10 @@ entry a i = getD a i nobody
 
 module _ {s : Lists} {ls : ℕ → List ℕ} (st : Stores s ls) (l : ℕ) where
   pub first-place : at (s .first) l ≤ most
-  first-place = go (ls l) refl
-    where
-      go : (q : List ℕ) → ls l ≡ q → at (s .first) l ≤ most
-      go [] e = omega (arith, st .first l ∙ ap front e)
-      go (a ∷ q) e = let n : Numbered a = st .waits .task l a (subst (In a) (sym e) (inl refl)) in omega (arith, n .high, st .first l ∙ ap front e)
+  first-place = omega (arith, st .first l, front-most (ls l) (st .waits .task l))
 
   pub last-place : at (s .last) l ≤ most
-  last-place = go (ls l) refl
-    where
-      go : (q : List ℕ) → ls l ≡ q → at (s .last) l ≤ most
-      go [] e = omega (arith, st .last l ∙ ap (back 0) e)
-      go (a ∷ q) e =
-          let n : Numbered (back a q) = st .waits .task l (back a q) (subst (In (back a q)) (sym e) (back-in a q)) in
-          omega (arith, n .high, st .last l ∙ ap (back 0) e)
+  last-place = omega (arith, st .last l, back-most (ls l) (st .waits .task l))
 
 -- ---- pushes
 
@@ -77,14 +67,10 @@ module _ {s : Lists} {ls : ℕ → List ℕ} (sz : Sized s) (st : Stores s ls) (
 
 -- ---- pops
 
--- a place that gets what it has is as it was
-pub put-same : (ls : ℕ → List ℕ) (l : ℕ) (q : List ℕ) → ls l ≡ q → put ls l q ≡ ls
-put-same ls l q e = fun-ext (put-all ls l q (λ k v. v ≡ ls k) (sym e) (λ k d. refl))
-
 module _ {s : Lists} {ls : ℕ → List ℕ} (sz : Sized s) (st : Stores s ls) (l : ℕ) (level : Numbered l) where
   pub popped-none : at (s .first) l ≡ 0 → PopsFrom ls l (record { front = Who.Nobody; lists = s })
   popped-none z =
-      let none : ls l ≡ [] = front-none (st .waits) l (sym (st .first l) ∙ z) in
+      let none : ls l ≡ [] = front-empty (ls l) (st .waits .task l) (sym (st .first l) ∙ z) in
       record {
         front = ap frontOf (sym none);
         stores = subst (Stores s) (sym (put-same ls l (behind (ls l)) (none ∙ ap behind (sym none)))) st;
@@ -175,7 +161,6 @@ module _ {s : Lists} {ls : ℕ → List ℕ} (st : Stores s ls) (l : ℕ) (r : P
   pub popped-enters : (t : TaskNo) (to : ℕ) → r .front ≡ Who.One t → Numbered to → MayEnter (r .lists) to (t .0)
   popped-enters t to e n =
       let p = split t e in
-      let q = p .0 in
       let here : In (t .0) (ls l) = subst (In (t .0)) (sym (p .1)) (inl refl) in
       let gone : (In (t .0) (behind (ls l)) → ⊥) = λ m. subst Once (p .1) (st .waits .once l) .0 (subst (In (t .0)) (ap behind (p .1)) m) in
       record {

@@ -1,5 +1,5 @@
 -- What is left of a stored list while it is walked: the number at hand is its front. Assumes nothing.
-use mathlib.Core.Path.{_≡_, refl, sym, ap, _∙_}
+use mathlib.Core.Path.{_≡_, sym, ap, _∙_}
 use mathlib.Core.Logic.{inl, inr}
 use mathlib.Core.List.{List, [], _∷_, _++_}
 use Prim.Native.Nat.{ℕ, _+_, _≤_, _<_}
@@ -13,6 +13,7 @@ use Rattle.rules.specs.Listing.{pairsOf}
 use Rattle.lists.specs.declared.Lists.{Lists}
 use Rattle.lists.specs.Links.{Numbered, at, front, Linked, Stores}
 use Rattle.lists.specs.Answers.{ListedFrom}
+use Rattle.lists.proofs.Links.{front-empty}
 
 -- ---- the walk
 
@@ -26,11 +27,7 @@ rest-start : {s : Lists} {ls : ℕ → List ℕ} → Stores s ls → (l : ℕ) �
 rest-start st l = record { head = st .first l; linked = st .next l; tasks = st .waits .task l }
 
 rest-empty : {next : ℕ → ℕ} {q : List ℕ} {x : ℕ} → Rest next q x → x ≡ 0 → q ≡ []
-rest-empty {next} {q} {x} r e = go q (sym (r .head) ∙ e) (r .tasks)
-  where
-    go : (p : List ℕ) → front p ≡ 0 → ((y : ℕ) → In y p → Numbered y) → p ≡ []
-    go [] f t = refl
-    go (y ∷ p) f t = let n : Numbered y = t y (inl refl) in let z : ⊥ = omega arith in absurd z
+rest-empty {next} {q} {x} r e = front-empty q (r .tasks) (sym (r .head) ∙ e)
 
 -- where x is somebody, it stands first of what is left, and its link names the first of the others
 record Turn (next : ℕ → ℕ) (q : List ℕ) (x : ℕ) : Type 0 where

@@ -1,13 +1,9 @@
--- Two results that a contract allows are equal: each contract of the crate determines what it returns. Assumes nothing.
+-- Two results that a contract allows are equal, where the contract speaks of any lists that are stored, or of marks. Assumes nothing.
 use mathlib.Core.Path.{_≡_, refl, sym, ap, ap₂, _∙_}
 use mathlib.Core.Bool.{Bool}
 use mathlib.Core.List.{List}
-use Prim.Native.Nat.{ℕ, _<_, _^_}
-use Rattle.laws.specs.Words.{Decides, pick}
-use Rattle.laws.specs.Bits.{BitMade}
-use Rattle.laws.proofs.Bools.{decides-one}
-use Rattle.laws.proofs.Bits.{made-one}
-use Rattle.rules.specs.Table.{most}
+use Prim.Native.Nat.{ℕ}
+use Rattle.laws.specs.Words.{pick}
 use Rattle.rules.specs.State.{Running, Nobody, One}
 use Rattle.lists.specs.declared.Lists.{Lists}
 use Rattle.lists.specs.declared.Popped.{Popped}
@@ -67,18 +63,6 @@ module _ {s : Lists} (h : Holds s) where
       let c = p (h .lists) (h .stores) in
       let d = q (h .lists) (h .stores) in
       (c .size ∙ sym (d .size), c .buffer ∙ sym (d .buffer))
-
--- empty
-pub empty-result : (ls : ℕ → List ℕ) (a b : Lists) → Sized a → Sized b → Stores a ls → Stores b ls → a ≡ b
-empty-result ls a b = arrays-one
-
--- holds_lists, and the tests that it is made of
-pub test-result : (A : Type 0) (a b : Bool) → Decides a A → Decides b A → a ≡ b
-test-result = decides-one
-
--- with_bit, without_bit
-pub bit-result : (m k v a b : ℕ) → a < 2 ^ most → b < 2 ^ most → BitMade m k v a → BitMade m k v b → a ≡ b
-bit-result m k v a b = made-one most m k v a b
 
 -- go_along
 pub gone-result : (s : Lists) (l : ℕ) (before : List Bool) (a b : Gone) → Went s l before a → Went s l before b → a ≡ b

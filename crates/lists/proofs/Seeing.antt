@@ -17,7 +17,7 @@ use Rattle.rules.specs.State.{listing}
 use Rattle.lists.specs.declared.Lists.{Lists}
 use Rattle.lists.specs.declared.test.Gone.{Gone}
 use Rattle.lists.specs.Links.{at, back}
-use Rattle.lists.specs.Test.{walk, listAt, allOf, none, seenAt, marked, fresh, Went, Unlinked, Listed}
+use Rattle.lists.specs.Test.{walk, listAt, allOf, none, seenAt, marked, fresh, Went, Unlinked, ListsRight}
 use Rattle.lists.proofs.Walks.{walk-end, walk-on}
 use Rattle.lists.proofs.Marks.{unseen-falls, marked-append, fresh-append}
 
@@ -111,10 +111,10 @@ seeing-starts s =
 
 module _ {s : Lists} {l : ℕ} {seen : List Bool} (now : Seeing s l seen) where
   -- all levels are passed: the rest is told by the links of those not seen
-  pub seeing-ends : suc most ≤ l → (b : Bool) → Decides b (Unlinked s seen) → Decides b (Listed s)
+  pub seeing-ends : suc most ≤ l → (b : Bool) → Decides b (Unlinked s seen) → Decides b (ListsRight s)
   unfolding fresh marked joined
   seeing-ends h b d =
-      decides-same (Unlinked s seen) (Listed s) b
+      decides-same (Unlinked s seen) (ListsRight s) b
       (λ u. record { fresh = t; last = λ k n. now .last k (n .low) (omega (arith, n .high)); unlinked = rw e u }) (λ g. rw e at (g .unlinked)) d
     where
       z : now .left ≡ 0
@@ -138,7 +138,7 @@ module _ {s : Lists} {l : ℕ} {seen : List Bool} (now : Seeing s l seen) where
     split : fresh none (allOf s) ≡ (fresh seen (listAt s l) && fresh (marked seen (listAt s l)) (joined (listAt s) (above .0) (suc l)))
     split = sym (now .fresh) ∙ ap (fresh seen) (above .2) ∙ fresh-append seen (listAt s l) (joined (listAt s) (above .0) (suc l))
 
-    pub seeing-refutes : r .ok ≡ false → Listed s → ⊥
+    pub seeing-refutes : r .ok ≡ false → ListsRight s → ⊥
     seeing-refutes f h =
         let t = both-true (fresh seen (listAt s l)) (fresh (marked seen (listAt s l)) (joined (listAt s) (above .0) (suc l))) (sym split ∙ h .fresh) in
         let e = eq-eqb (at (s .last) l) (back 0 (listAt s l)) (h .last l (record { low = now .low; high = b })) in

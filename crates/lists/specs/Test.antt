@@ -59,7 +59,7 @@ abbrev pub Unlinked : Lists → List Bool → Type 0
 Unlinked s seen = (x : ℕ) → x ≤ most → seenAt seen x ≡ false → at (s .next) x ≡ 0
 
 -- of the lists of all levels
-pub record Listed (s : Lists) : Type 0 where
+pub record ListsRight (s : Lists) : Type 0 where
   pub fresh : fresh none (allOf s) ≡ true
   pub last : (l : ℕ) → Numbered l → at (s .last) l ≡ back 0 (listAt s l)
   pub unlinked : Unlinked s (marked none (allOf s))

@@ -6,7 +6,7 @@ ghost use lib.Dec.{eqb};
 ghost use Rattle.laws.specs.Words.{Decides, digit};
 ghost use Rattle.rules.specs.Table.{most};
 ghost use Rattle.lists.specs.Answers.{Holds};
-ghost use Rattle.lists.specs.Test.{Went, Unlinked, Listed, MapTrue};
+ghost use Rattle.lists.specs.Test.{Went, Unlinked, ListsRight, MapTrue};
 use super::Lists;
 use super::PLACES;
 use table::MOST;
@@ -19,6 +19,7 @@ struct Gone {
 }
 
 impl Lists {
+    // Whether there are lists that the arrays and the map store.
     pub fn holds_lists(self) -> bool
         ensures { λ r. ⌜ Decides r (Holds self) ⌝ }
     {
@@ -51,7 +52,7 @@ impl Lists {
 
     // Whether the lists of all levels are right, with no number in two of them, and nobody else has a link.
     fn lists_hold(self) -> bool
-        ensures { λ r. ⌜ Decides r (Listed self) ⌝ }
+        ensures { λ r. ⌜ Decides r (ListsRight self) ⌝ }
     {
         let mut seen = [false; PLACES];
         for l in 1..PLACES {

@@ -145,7 +145,7 @@ module _ (table : List Task) where
       asks-passes (size-asked table) (tasksTests 1 table) (h .0, h .1)
       ∙ tasks-pass 1 table (λ j l. good-at (suc j) j (omega arith) (h .2 (suc j) (omega arith, l)))
 
-  to-3-failed : (r : Refusal) → firstOf (testsTo3 table) ≡ Failed r → verdictOf table ≡ Failed r
+  pub to-3-failed : (r : Refusal) → firstOf (testsTo3 table) ≡ Failed r → verdictOf table ≡ Failed r
   unfolding verdictOf
   to-3-failed r e = first-append-failed (testsTo3 table) _ r e
 

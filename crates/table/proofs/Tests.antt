@@ -11,11 +11,10 @@ use lib.Dec.{eqb}
 use lib.ListN.{length, take, drop, drop-of-length-le, getD, replicate, length-append, length-map, length-take, length-replicate, List·getD-map}
 use lib.Seq.{drop-cons, drop-length, getD-take}
 use Rattle.laws.specs.Words.{pick, sum}
-use Rattle.rules.specs.Numbers.{Refusal, TableSize, OutOfRange, OutOfOrder, Overload, Verdict, Passed, Failed, numberIn, taskWith, firstOf}
+use Rattle.rules.specs.Numbers.{TableSize, OutOfRange, OutOfOrder, Overload, Verdict, Passed, Failed, numberIn, taskWith, firstOf}
 use Rattle.rules.specs.Table.{Task, most, ranged, ordered, shareOf, loadOf, tasksTests, testsTo3, verdictOf}
 use Rattle.rules.specs.Refusals.{Ranged, Ordered}
-use Rattle.rules.proofs.Verdicts.{first-append, first-append-failed}
-use Rattle.rules.proofs.Tables.{passed-to-3}
+use Rattle.rules.proofs.Tables.{passed-to-3, demand-1-table}
 use Rattle.table.specs.declared.Table.{Table}
 use Rattle.table.specs.declared.Verdict as Answer
 use Rattle.table.specs.declared.Verdict.the-variants as Says
@@ -148,20 +147,14 @@ module _ (table : Table) (long : length (table .tasks) ≡ most) (passed : first
   pub load-end : loadFrom table (table .count) ≡ 0
   load-end = ap (λ (n : ℕ). loadFrom table n) (sym (table-length table long)) ∙ ap loadOf (drop-length (tableOf table)) ∙ load-none
 
--- ---- the whole verdict
+-- ---- the whole verdict, once tests 1 to 3 have passed: rows of the rules' table of numbers
 
-module _ (table : List Task) where
-  pub overloaded : firstOf (testsTo3 table) ≡ Passed → 1000 < loadOf table → verdictOf table ≡ Failed Overload
-  unfolding verdictOf
-  overloaded e h = first-append (testsTo3 table) _ e ∙ unfold firstOf in rw (lt-leb (loadOf table) 1000 h)
+module _ (table : List Task) (passed : firstOf (testsTo3 table) ≡ Passed) where
+  pub overloaded : 1000 < loadOf table → verdictOf table ≡ Failed Overload
+  overloaded h = demand-1-table table .numbers .number-4 .1 (passed-to-3 table passed, h)
 
-  pub sound : firstOf (testsTo3 table) ≡ Passed → loadOf table ≤ 1000 → verdictOf table ≡ Passed
-  unfolding verdictOf
-  sound e h = first-append (testsTo3 table) _ e ∙ unfold firstOf in rw (le-leb (loadOf table) 1000 h)
-
-  pub refused : (r : Refusal) → firstOf (testsTo3 table) ≡ Failed r → verdictOf table ≡ Failed r
-  unfolding verdictOf
-  refused r e = first-append-failed (testsTo3 table) _ r e
+  pub sound : loadOf table ≤ 1000 → verdictOf table ≡ Passed
+  sound h = demand-1-table table .numbers .sound .1 (passed-to-3 table passed, h)
 
 -- ---- the answer
 

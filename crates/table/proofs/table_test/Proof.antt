@@ -7,11 +7,12 @@ use denote.Enum.Declared.{tagOf}
 use borrow.Author.Needs.{needs}
 use Rattle.rules.specs.Numbers.{Passed, firstOf}
 use Rattle.rules.specs.Table.{Task, testsTo3, verdictOf}
+use Rattle.rules.proofs.Tables.{to-3-failed}
 use Rattle.table.specs.declared.Verdict.{Verdict}
 use Rattle.table.specs.declared.Verdict.the-variants.{Sound, TableSize, OutOfRange, OutOfOrder, Overload}
 use Rattle.table.specs.Stored.{tableOf, verdictIn}
 use Rattle.table.proofs.Verdict.{the-type}
-use Rattle.table.proofs.Tests.{overloaded, sound, refused}
+use Rattle.table.proofs.Tests.{overloaded, sound}
 use Rattle.table.proofs.table_test.Statement.{statement}
 use Rattle.table.proofs.table_test.Tie as tie
 
@@ -22,10 +23,10 @@ kept Sound table h e = absurd (other h)
   where
     other : OneOf (1 ∷ 2 ∷ 3 ∷ 4 ∷ []) 0 → ⊥
     other h = ⊎-elim (λ e. omega arith) (⊎-elim (λ e. omega arith) (⊎-elim (λ e. omega arith) (λ e. omega arith))) h
-kept TableSize table h e = sym (refused table _ (sym e))
-kept (OutOfRange k) table h e = sym (refused table _ (sym e))
-kept (OutOfOrder k) table h e = sym (refused table _ (sym e))
-kept Overload table h e = sym (refused table _ (sym e))
+kept TableSize table h e = sym (to-3-failed table _ (sym e))
+kept (OutOfRange k) table h e = sym (to-3-failed table _ (sym e))
+kept (OutOfOrder k) table h e = sym (to-3-failed table _ (sym e))
+kept Overload table h e = sym (to-3-failed table _ (sym e))
 
 passed : (c : tie.After-enum-told) → firstOf (testsTo3 (tableOf (c .before .before .before .args .table))) ≡ Passed
 passed c = sym (c .before .before .tests-to-3 .ensures) ∙ ap verdictIn (c .enum-told .given .1)
