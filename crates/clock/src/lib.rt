@@ -8,7 +8,7 @@ ghost use Rattle.clock.specs.Advance.{advanceOf, advancedIn};
 const HALF_TURN: u32 = 1 << 31;
 
 // "may reach 2^40, no further"
-const LAST_TICK: u64 = 1 << 40;
+pub const LAST_TICK: u64 = 1 << 40;
 
 // The new time, or the test that fails: 5 or 6.
 pub enum Moved {

@@ -1,6 +1,6 @@
 -- Tests and their digits. Assumes nothing.
 use mathlib.Core.Path.{_≡_, refl, sym, ap}
-use mathlib.Core.Bool.{Bool, true, false, not, _&&_}
+use mathlib.Core.Bool.{Bool, true, false, not, _&&_, Bool·beq}
 use Prim.Native.Nat.{ℕ, suc, _+_, _≤_}
 use native.Mathlib.Omega.{arith}
 use borrow.Author.Tests.{ltb-true, ltb-false, leb-true, lt-ltb, le-ltb, le-leb, not-true}
@@ -80,3 +80,31 @@ decides-one A true true d e = refl
 decides-one A true false d e = absurd (e d)
 decides-one A false true d e = absurd (d e)
 decides-one A false false d e = refl
+
+-- a test that passes exactly when A holds tells it
+pub test-decides : (A : Type 0) (b : Bool) → (b ≡ true → A) → (A → b ≡ true) → Decides b A
+test-decides A true f g = f refl
+test-decides A false f g = false-not false g refl
+
+-- what a test that was asked tells, on either way out
+pub told-true : (A : Type 0) (b : Bool) → not b ≡ false → Decides b A → A
+told-true A true e d = d
+told-true A false e d = true-false true refl e
+
+pub told-false : (A : Type 0) (b : Bool) → not b ≡ true → Decides b A → A → ⊥
+told-false A true e d = true-false false e refl
+told-false A false e d = d
+
+-- ---- two flags
+
+pub flags-same : (a b : Bool) → not (Bool·beq a b) ≡ false → a ≡ b
+flags-same true true e = refl
+flags-same true false e = e
+flags-same false true e = sym e
+flags-same false false e = refl
+
+pub flags-differ : (a b : Bool) → not (Bool·beq a b) ≡ true → a ≡ b → ⊥
+flags-differ true true t e = true-false false t refl
+flags-differ true false t e = true-false false (sym e) refl
+flags-differ false true t e = true-false false e refl
+flags-differ false false t e = true-false false t refl

@@ -10,10 +10,11 @@ use native.Mathlib.Nat.{mul-suc}
 use native.Mathlib.Numerals.{add-one}
 use borrow.Author.Tests.{eq-eqb, ne-eqb, eqb-true, eqb-false, ltb-true}
 use lib.Dec.{eqb, ltb}
-use lib.ListN.{length, length-append}
+use lib.ListN.{length, getD, set, length-append}
+use lib.Seq.{getD-set-same, getD-set-other}
 use Rattle.laws.specs.Words.{pick, those, In, Sorted, inserted, put, grouped, joined}
 use Rattle.laws.proofs.Counts.{those-none, those-all, those-same, those-append}
-use Rattle.laws.proofs.Orders.{in-append, sorted-append, those-inserted-out}
+use Rattle.laws.proofs.Orders.{in-append, sorted-append, sorted-first, sorted-second, those-inserted-out}
 
 -- ---- one place changed
 
@@ -35,6 +36,13 @@ module _ {X : Type 0} (f : ℕ → X) (k : ℕ) (v : X) where
 -- a place that gets what it has is as it was
 pub put-same : {X : Type 0} (f : ℕ → X) (k : ℕ) (v : X) → f k ≡ v → put f k v ≡ f
 put-same f k v e = fun-ext (put-all f k v (λ j w. w ≡ f j) (sym e) (λ j d. refl))
+
+-- a store into an array is a change of its family at one place (g reads the value at a place)
+pub set-put : {X Y : Type 0} (g : ℕ → X → Y) (xs : List X) (k : ℕ) (v d : X) → k < length xs → (λ j. g j (getD (set xs k v) j d)) ≡ put (λ j. g j (getD xs j d)) k (g k v)
+set-put g xs k v d h =
+    fun-ext
+    (put-all (λ j. g j (getD xs j d)) k (g k v) (λ j w. g j (getD (set xs k v) j d) ≡ w) (ap (g k) (getD-set-same xs k v d h))
+    (λ j e. ap (g j) (getD-set-other xs k j v d e)))
 
 -- ---- grouped by a key
 
@@ -167,3 +175,16 @@ module _ {X : Type 0} where
               ∙ append-nil (lists k) ∙ ap lists e
           go (no d) h =
               ap₂ (λ (a b : List X). a ++ b) (grouped-none key (lists k) l (λ y m e. d (sym (place k y m) ∙ e))) (h (omega arith) (omega arith))
+
+module _ {X : Type 0} (R : X → X → Type 0) where
+  -- of lists that are in order one behind the other, each is
+  pub sorted-each : (lists : ℕ → List X) (n k : ℕ) → Sorted R (joined lists n k) → (l : ℕ) → k ≤ l → l < k + n → Sorted R (lists l)
+  unfolding joined
+  sorted-each lists zero k s l a b = let z : ⊥ = omega arith in absurd z
+  sorted-each lists (suc n) k s l a b =
+      go (ℕ-discrete k l) (sorted-first R (lists k) (joined lists n (suc k)) s)
+      (sorted-each lists n (suc k) (sorted-second R (lists k) (joined lists n (suc k)) s) l)
+    where
+      go : Dec (k ≡ l) → Sorted R (lists k) → (suc k ≤ l → l < suc k + n → Sorted R (lists l)) → Sorted R (lists l)
+      go (yes e) here above = rw e at here
+      go (no d) here above = above (omega arith) (omega arith)

@@ -12,7 +12,6 @@ use lib.ListN.{length, List·getD-eq-default}
 use Rattle.laws.specs.Words.{digit, In}
 use Rattle.laws.proofs.Bools.{true-false, not-false-test}
 use Rattle.laws.proofs.Orders.{none-in}
-use Rattle.laws.proofs.Families.{in-joined}
 use Rattle.rules.specs.Table.{most}
 use Rattle.rules.specs.State.{listing}
 use Rattle.table.specs.declared.TaskNo.{TaskNo}
@@ -23,21 +22,12 @@ use Rattle.lists.specs.Test.{listAt, allOf, none, seenAt, marked, ListsR
 use Rattle.lists.proofs.Few.{list-few}
 use Rattle.lists.proofs.Storage.{Sized}
 use Rattle.lists.proofs.Walks.{walk-end, walk-front, walk-occupied, walk-positive, walk-linked, lists-held}
-use Rattle.lists.proofs.Apart.{joined-in, joined-once, once-each, apart-each}
+use Rattle.lists.proofs.Apart.{joined-once, once-each, apart-each}
+use Rattle.lists.proofs.Together.{in-all, all-in}
 use Rattle.lists.proofs.Marks.{seen-none, marked-only, marked-in, Unseen, fresh-once, once-fresh}
 
 past-end : (a : List TaskNo) (k : ℕ) → length a ≡ suc most → most < k → at a k ≡ 0
 past-end a k n h = ap (λ (u : TaskNo). u .0) (List·getD-eq-default a nobody (omega arith))
-
--- ---- who stands in a list
-
-in-all : (lists : ℕ → List ℕ) (x l : ℕ) → Numbered l → In x (lists l) → In x (listing lists)
-unfolding listing
-in-all lists x l n m = joined-in lists x most 1 l (n .low) (omega (arith, n .high)) m
-
-all-in : (lists : ℕ → List ℕ) (x : ℕ) → In x (listing lists) → (l : ℕ) × In x (lists l)
-unfolding listing
-all-in lists x m = let j = in-joined lists x most 1 m in (j .0, j .2)
 
 bit-told : (s : Lists) (k : ℕ) → digit (not (eqb (at (s .first) (k + 1)) 0)) ≡ digit (occupied (listAt s (suc k)))
 bit-told s k = rw (add-one k) (ap digit (sym (walk-occupied (at (s .next)) (suc most) (at (s .first) (suc k)))))

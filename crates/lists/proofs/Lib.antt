@@ -6,9 +6,11 @@ pub mod Walks
 pub mod Determined
 pub mod Operations
 pub mod Lowest
+pub mod Occupied
 pub mod Rests
 pub mod Passes
 pub mod Apart
+pub mod Together
 pub mod Marks
 pub mod Seeing
 pub mod Deciding

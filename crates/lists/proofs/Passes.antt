@@ -1,18 +1,16 @@
 -- What the loops over all levels keep, where the lists below level l are passed. Assumes nothing.
 use mathlib.Core.Path.{_≡_, ap}
 use mathlib.Core.List.{List, [], _++_}
-use Prim.Native.Nat.{ℕ, suc, _+_, _-_, _*_, _≤_, _<_}
+use Prim.Native.Nat.{ℕ, suc, _+_, _-_, _≤_, _<_}
 use native.Mathlib.Omega.{arith}
 use lib.ListN.{length, length-append}
 use Rattle.laws.specs.Words.{joined}
 use Rattle.laws.proofs.Buffers.{Filling, filling-start, filling-room, filling-written, filling-size, filling-end}
-use Rattle.laws.proofs.Families.{joined-turn, joined-over, joined-few}
+use Rattle.laws.proofs.Families.{joined-turn, joined-over}
 use Rattle.rules.specs.Table.{most}
 use Rattle.rules.specs.State.{listing}
 use Rattle.rules.specs.Listing.{pairsOf, bytesOf}
-use Rattle.lists.specs.Links.{Waits}
 use Rattle.lists.specs.Answers.{ListedFrom}
-use Rattle.lists.proofs.Few.{list-few}
 
 -- the lists from level l up
 abbrev from : (ℕ → List ℕ) → ℕ → List ℕ
@@ -41,11 +39,6 @@ module _ {ls : ℕ → List ℕ} {l n : ℕ} (now : Adding ls l n) where
 
   pub adding-end : most < l → n ≡ length (listing ls)
   adding-end h = omega (arith, ap length (joined-over ls (suc most) l h), now .sum)
-
--- no list is longer than the table may be, so the sum has its bound
-pub listing-few : {ls : ℕ → List ℕ} → Waits ls → length (listing ls) ≤ most * most
-unfolding listing
-listing-few {ls} w = joined-few ls most most 1 (list-few w)
 
 -- ---- written into a buffer
 

@@ -1,11 +1,10 @@
 -- Arrays of task numbers as families: what is stored in them, and what they store. Assumes nothing.
-use mathlib.Core.Path.{_≡_, sym, ap, subst, fun-ext}
+use mathlib.Core.Path.{_≡_, sym, subst}
 use mathlib.Core.List.{List}
 use Prim.Native.Nat.{ℕ, suc, _<_, _^_}
 use lib.ListN.{length, set}
-use lib.Seq.{getD-set-same, getD-set-other}
 use Rattle.laws.specs.Words.{put}
-use Rattle.laws.proofs.Families.{put-all}
+use Rattle.laws.proofs.Families.{set-put}
 use Rattle.rules.specs.Table.{most}
 use Rattle.table.specs.declared.TaskNo.{TaskNo}
 use Rattle.lists.specs.declared.Lists.{Lists}
@@ -21,10 +20,7 @@ pub record Sized (s : Lists) : Type 0 where
 
 -- a store is a change of the family at one place
 pub at-set : (a : List TaskNo) (i : ℕ) (t : TaskNo) → i < length a → at (set a i t) ≡ put (at a) i (t .0)
-at-set a i t h =
-    fun-ext
-    (put-all (at a) i (t .0) (λ k v. at (set a i t) k ≡ v) (ap (λ (u : TaskNo). u .0) (getD-set-same a i t nobody h))
-    (λ k d. ap (λ (u : TaskNo). u .0) (getD-set-other a i k t nobody d)))
+at-set a i t h = set-put (λ (j : ℕ) (u : TaskNo). u .0) a i t nobody h
 
 pub stored-by : {s : Lists} {ls : ℕ → List ℕ} → Stores s ls → StoredBy (at (s .first)) (at (s .last)) (at (s .next)) (s .map) ls
 stored-by st =

@@ -8,7 +8,7 @@ use native.Mathlib.Omega.{arith}
 use borrow.Author.Tests.{eqb-true, eq-eqb, ltb-true, ltb-false, lt-ltb, le-ltb, leb-true, leb-false, le-leb, lt-leb}
 use Rattle.laws.specs.Words.{behind}
 use Rattle.laws.proofs.Bools.{clash, true-false, both-le, le-both}
-use Rattle.rules.specs.Numbers.{Refusal, TableSize, OutOfRange, OutOfOrder, Overload, CounterWentBack, ClockFull, NoSuchTask, TaskActive, TooSoon, NotRunning, BufferTooShort}
+use Rattle.rules.specs.Numbers.{Refusal, TableSize, OutOfRange, OutOfOrder, Overload, CounterWentBack, ClockFull, NoSuchTask, TaskActive, TooSoon, NotRunning, BufferTooShort, NotWhole}
 use Rattle.rules.specs.Numbers.{Test, refuse, Verdict, Passed, Failed, firstOf}
 use Rattle.rules.specs.Table.{Task, taskAt, isTask}
 use Rattle.rules.specs.Clock.{elapsedOf, wentBack, tooFar}
@@ -147,6 +147,7 @@ Given a b c d e f (OutOfRange k) = ⊥
 Given a b c d e f (OutOfOrder k) = ⊥
 Given a b c d e f Overload = ⊥
 Given a b c d e f BufferTooShort = ⊥
+Given a b c d e f NotWhole = ⊥
 
 abbrev Why : State → Call → Refusal → Type 0
 Why s (Release n k) =
@@ -197,6 +198,12 @@ module _ (s : State) where
       (λ o. asks-failed (task-asked (s .table) k) _ P r (λ x. (o, x))
       (λ i. asks-failed (runs-asked (s .ready .running) k) [] P r (λ x. (o, i, x)) (λ x. none-failed r)))
   why (Clock n) r = why-timed (Clock n) r (λ h. h) (λ h. h) (λ o. none-failed r)
+
+  -- 15 is a block's: no call on a state gets it
+  pub never-15 : (c : Call) → Gives s c NotWhole → ⊥
+  never-15 (Release n k) = why (Release n k) NotWhole
+  never-15 (Done n k) = why (Done n k) NotWhole
+  never-15 (Clock n) = why (Clock n) NotWhole
 
   why-time : (c : Call) → (Gives s c CounterWentBack → Back s (readingOf c)) × (Gives s c ClockFull → Full s (readingOf c))
   why-time (Release n k) = (why (Release n k) CounterWentBack, why (Release n k) ClockFull)

@@ -12,7 +12,7 @@ use lib.ListN.{length, getD}
 use Rattle.laws.specs.Words.{In}
 use Rattle.laws.proofs.Bools.{both-true, both-le, le-both}
 use Rattle.rules.specs.Numbers.{Refusal, TableSize, OutOfRange, OutOfOrder, Overload, Test, refuse, Passed, Failed, firstOf}
-use Rattle.rules.specs.Numbers.{CounterWentBack, ClockFull, NoSuchTask, TaskActive, TooSoon, NotRunning, BufferTooShort}
+use Rattle.rules.specs.Numbers.{CounterWentBack, ClockFull, NoSuchTask, TaskActive, TooSoon, NotRunning, BufferTooShort, NotWhole}
 use Rattle.rules.specs.Table.{Task, most, taskAt, deadlines, rightSize, inRange, ranged, ordered, loadOf, tasksTests, testsTo3, tableTests, verdictOf}
 use Rattle.rules.specs.Refusals.{Ranged, Ordered, InTable, PassesTo3, FirstBad, TableNumbers}
 use Rattle.rules.specs.Demands.{Demand1Table}
@@ -176,6 +176,7 @@ Why table TaskActive = ⊥
 Why table TooSoon = ⊥
 Why table NotRunning = ⊥
 Why table BufferTooShort = ⊥
+Why table NotWhole = ⊥
 
 module _ (table : List Task) where
   first-bad : (Bad : Task → Type 0) (k i : ℕ) → (1 ≤ length table) × (length table ≤ most) → k ≡ 1 + i → i < length table → GoodTo table i → Bad (nth table i)

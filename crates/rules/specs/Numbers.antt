@@ -4,7 +4,7 @@ use mathlib.Core.Bool.{Bool}
 use mathlib.Core.List.{List, [], _∷_}
 use Rattle.laws.specs.Words.{pick}
 
--- the refusals of the table, the calls and the listing
+-- the refusals of the table, the calls and the listing; the last is a block's (a state of the rules has no storage that could be wrong)
 pub data Refusal : Type 0 where
   -- "table empty or above 32 tasks"
   TableSize : Refusal
@@ -28,6 +28,8 @@ pub data Refusal : Type 0 where
   NotRunning : Refusal
   -- "listing: buffer too short"
   BufferTooShort : Refusal
+  -- "the block is not whole"
+  NotWhole : Refusal
 
 -- "No."
 abbrev pub numberOf : Refusal → ℕ
@@ -42,6 +44,7 @@ numberOf TaskActive = 8
 numberOf TooSoon = 9
 numberOf NotRunning = 10
 numberOf BufferTooShort = 11
+numberOf NotWhole = 15
 
 -- "With it": nothing, or a task
 pub data Value : Type 0 where
@@ -60,6 +63,7 @@ valueOf TaskActive = Nothing
 valueOf TooSoon = Nothing
 valueOf NotRunning = Nothing
 valueOf BufferTooShort = Nothing
+valueOf NotWhole = Nothing
 
 -- ---- tests that run in order
 

@@ -4,7 +4,8 @@ use native.Mathlib.Omega.{arith}
 use borrow.Author.Needs.{needs}
 use Rattle.rules.specs.Table.{most}
 use Rattle.lists.specs.Links.{Stores}
-use Rattle.lists.proofs.Passes.{Adding, adding-start, adding-room, adding-turn, adding-end, listing-few}
+use Rattle.lists.proofs.Passes.{Adding, adding-start, adding-room, adding-turn, adding-end}
+use Rattle.lists.proofs.Together.{listing-few}
 use Rattle.lists.proofs.Lists.waiting.Statement.{statement}
 use Rattle.lists.proofs.Lists.waiting.Tie as tie
 

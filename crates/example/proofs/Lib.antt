@@ -1,0 +1,2 @@
+-- Laws of the program's numbers.
+pub mod Signs

@@ -1,0 +1,2 @@
+-- Laws of the jobs that are kept.
+pub mod Keeping

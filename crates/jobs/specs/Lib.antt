@@ -1,0 +1,2 @@
+-- What the contracts of `jobs` cite beside the rules.
+pub mod Kept

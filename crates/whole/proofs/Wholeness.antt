@@ -1,0 +1,93 @@
+-- A block is whole exactly when its parts are. Assumes nothing.
+use mathlib.Core.Path.{_≡_}
+use mathlib.Core.List.{List}
+use Prim.Native.Nat.{ℕ}
+use lib.ListN.{take}
+use Rattle.rules.specs.Levels.{risingOf}
+use Rattle.rules.specs.State as Rules
+use Rattle.table.specs.Stored.{tableOf}
+use Rattle.lists.specs.Answers.{Holds}
+use Rattle.lists.proofs.Walks.{lists-held}
+use Rattle.jobs.specs.declared.Job.{Job}
+use Rattle.jobs.specs.declared.Tasks.{Tasks}
+use Rattle.ready.specs.declared.Ready.{Ready}
+use Rattle.whole.specs.Whole.{viewIn, Whole}
+use Rattle.whole.specs.Parts.{TasksWhole, JobsWhole, Tested, QueueWhole}
+
+module _ {tasks : Tasks} {jobs : List Job} {ready : Ready} {clock : ℕ} where
+  pub parts-whole : Tested tasks jobs ready clock → QueueWhole tasks jobs ready clock → Whole tasks jobs ready clock
+  parts-whole t q =
+      record {
+        table = t .datable .tasks-whole .table;
+        copy = t .datable .tasks-whole .copy;
+        runner = q .runner;
+        waiter = q .waiter;
+        ticks = t .datable .ticks;
+        known = t .datable .jobs-whole .known;
+        past = t .datable .jobs-whole .past;
+        once = q .once;
+        links = t .links;
+        place = q .place;
+        order = q .order;
+        first = q .first;
+        nobody = q .nobody;
+        map = lists-held (t .links .stores) .map;
+      }
+
+  pub whole-tasks : Whole tasks jobs ready clock → TasksWhole tasks
+  whole-tasks w = record { table = w .table; copy = w .copy }
+
+  pub whole-jobs : Whole tasks jobs ready clock → JobsWhole (tasks .table) jobs clock
+  whole-jobs w = record { known = w .known; past = w .past }
+
+  pub whole-queue : Whole tasks jobs ready clock → QueueWhole tasks jobs ready clock
+  whole-queue w =
+      record {
+        runner = w .runner;
+        waiter = w .waiter;
+        once = w .once;
+        place = w .place;
+        order = w .order;
+        first = w .first;
+        nobody = w .nobody;
+      }
+
+  -- ---- the view
+
+  -- the state that a whole block holds is whole
+  pub whole-state : Whole tasks jobs ready clock → (reading : ℕ) → Rules.Whole (viewIn tasks jobs ready clock reading)
+  whole-state w reading =
+      record {
+        table = w .table;
+        runner = λ k e. let h = w .runner k e in record { active = h .active; task = h .task };
+        waiter = λ l k m. let h = w .waiter l k m in record { active = h .active; task = h .task };
+        clock = w .ticks;
+        known = w .known;
+        past = w .past;
+        once = w .once;
+        place = w .place;
+        order = w .order;
+        first = w .first;
+        nobody = w .nobody;
+      }
+
+  -- .. and a block is whole that holds such a state, whose copy agrees with its table, and whose links and map store lists
+  pub state-whole : {reading : ℕ} → Rules.Whole (viewIn tasks jobs ready clock reading) → take (tasks .table .count) (tasks .rising) ≡ risingOf (tableOf (tasks .table))
+      → Holds (ready .lists) → Whole tasks jobs ready clock
+  state-whole w copy links =
+      record {
+        table = w .table;
+        copy = copy;
+        runner = λ k e. let h = w .runner k e in record { active = h .active; task = h .task };
+        waiter = λ l k m. let h = w .waiter l k m in record { active = h .active; task = h .task };
+        ticks = w .clock;
+        known = w .known;
+        past = w .past;
+        once = w .once;
+        links = links;
+        place = w .place;
+        order = w .order;
+        first = w .first;
+        nobody = w .nobody;
+        map = lists-held (links .stores) .map;
+      }

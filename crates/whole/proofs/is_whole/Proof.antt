@@ -1,0 +1,71 @@
+use mathlib.Core.Path.{_≡_}
+use native.Mathlib.Omega.{arith}
+use borrow.Author.Needs.{needs}
+use lib.ListN.{length}
+use Rattle.laws.proofs.Arrays.{long-map}
+use Rattle.laws.proofs.Bools.{decides-same, told-true, told-false}
+use Rattle.rules.specs.Table.{most}
+use Rattle.table.proofs.Tests.{few-passed}
+use Rattle.whole.specs.Parts.{TasksWhole, Tested}
+use Rattle.whole.proofs.Wholeness.{parts-whole, whole-tasks, whole-jobs, whole-queue}
+use Rattle.whole.proofs.is_whole.Statement.{statement}
+use Rattle.whole.proofs.is_whole.Tie as tie
+
+long : (c : tie.Start) → length (c .args .tasks .table .tasks) ≡ most
+long c = search (needs, long-map)
+
+tasks-told : (c : tie.Else1) → TasksWhole (c .before .before .args .tasks)
+tasks-told c = told-true _ (c .before .tasks-whole .result) (c .if1 .left) (c .before .tasks-whole .ensures)
+
+tested : (c : tie.Else4) → let a = c .before .before .before .before .before .before .before .before .before .args in Tested (a .tasks) (a .jobs) (a .ready) (a .clock)
+tested c =
+    record {
+      datable =
+          record {
+            tasks-whole = tasks-told (c .before .before .before .before .before .before .before);
+            jobs-whole = told-true _ (c .before .before .before .before .jobs-whole .result) (c .before .before .before .if3 .left) (c .before .before .before .before .jobs-whole .ensures);
+            ticks = omega (arith, c .before .before .before .before .before .before .if2 .left);
+          };
+      links = told-true _ (c .before .holds-lists .result) (c .if4 .left) (c .before .holds-lists .ensures);
+    }
+
+tasks-whole-requires : tie.Need-tasks-whole-requires
+tasks-whole-requires c κs = search needs
+
+returns : tie.Need-returns
+returns c = λ w. told-false _ (c .before .tasks-whole .result) (c .if1 .taken) (c .before .tasks-whole .ensures) (whole-tasks w)
+
+returns-2 : tie.Need-returns-2
+returns-2 c = search needs
+
+jobs-whole-requires : tie.Need-jobs-whole-requires
+jobs-whole-requires c κs = few-passed _ (long (c .before .before .before .before)) (tasks-told (c .before .before) .table)
+
+returns-3 : tie.Need-returns-3
+returns-3 c = λ w. told-false _ (c .before .jobs-whole .result) (c .if3 .taken) (c .before .jobs-whole .ensures) (whole-jobs w)
+
+holds-lists-requires : tie.Need-holds-lists-requires
+holds-lists-requires c κs = search needs
+
+returns-4 : tie.Need-returns-4
+returns-4 c = λ w. told-false _ (c .before .holds-lists .result) (c .if4 .taken) (c .before .holds-lists .ensures) (w .links)
+
+queue-whole-requires : tie.Need-queue-whole-requires
+queue-whole-requires c κs = tested c
+
+returns-5 : tie.Need-returns-5
+returns-5 c = decides-same _ _ (c .queue-whole .result) (parts-whole (tested (c .before))) whole-queue (c .queue-whole .ensures)
+
+pub is-whole-spec : {M : Type 1} → statement M
+is-whole-spec =
+    tie.close
+    (tie.spec
+    tasks-whole-requires
+    returns
+    returns-2
+    jobs-whole-requires
+    returns-3
+    holds-lists-requires
+    returns-4
+    queue-whole-requires
+    returns-5)

@@ -1,0 +1,3 @@
+-- When a block is whole, and what each part of the test tells.
+pub mod Whole
+pub mod Parts
