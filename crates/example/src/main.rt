@@ -1,6 +1,5 @@
 // The paper's example, and of its "Both sides of each line" what is run and not proved: start, calls, listing and plan. What is written is
 // compared with the file stdout; its E lines are the paper's, word for word, and so are the points of its P lines.
-ghost use mathlib.Core.Path.{_≡_};
 ghost use Rattle.rules.specs.Calls.{Release, Done, Clock};
 ghost use Rattle.kernel.specs.Calls.{Follows};
 use kernel::Answer;

@@ -3,7 +3,7 @@
 //
 // They are inner forms: what they require of the table, the copy and the release times is so of a whole block.
 ghost use mathlib.Core.Path.{_≡_};
-ghost use mathlib.Core.Bool.{true, _&&_};
+ghost use mathlib.Core.Bool.{_&&_};
 ghost use Prim.Native.Nat.{_≤_};
 ghost use lib.Dec.{leb};
 ghost use Rattle.rules.specs.Levels.{remainingOf};

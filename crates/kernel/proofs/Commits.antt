@@ -110,6 +110,10 @@ module _ {b : Block} {c : Call} {time : ℕ} (g : Goes b c time) where
   high : time ≤ lastTick
   high = omega (arith, g .at, call-timely s c (g .passed) .high)
 
+  -- the times that there are: of the call, and of the block before it
+  pub ticks : (time ≤ lastTick) × (b .now .clock ≤ lastTick)
+  ticks = (high, g .whole .ticks)
+
   now-whole : Rules.Whole now
   now-whole = queue-whole now (Rules.everyone (s .ready)) (moved-queue s (Rules.everyone (s .ready)) (whole-queue s state) time (readingOf c) later high)
 
@@ -137,21 +141,25 @@ module _ {b : Block} {c : Call} {time : ℕ} (g : Goes b c time) where
   -- ---- promotion
 
   module _ (long : length (b .tasks .table .tasks) ≡ most) where
-    -- a task's job has a level at the time of the call, whatever jobs are kept, if its release is not later
-    levelled : (jobs : List Job) (k : ℕ) → isTask (tableOf (b .tasks .table)) k ≡ true → Rules.timeOf (releasedIn (b .tasks .table) jobs k) ≤ time
-        → Levelled (b .tasks) jobs time k
-    levelled jobs k t p =
-        record { dated = record { tested = g .whole .table; task = t; past = omega (arith, high) }; copy = copy-counted (b .tasks .table) (b .tasks .rising) long (g .whole .table) (g .whole .copy); high = high }
+    -- a task's job has a level at any time of the clock's range, whatever jobs are kept, if its release is not later than the call
+    levelled : (jobs : List Job) (k at : ℕ) → at ≤ lastTick → isTask (tableOf (b .tasks .table)) k ≡ true → Rules.timeOf (releasedIn (b .tasks .table) jobs k) ≤ time
+        → Levelled (b .tasks) jobs at k
+    levelled jobs k at h t p =
+        record {
+          dated = record { tested = g .whole .table; task = t; past = omega (arith, high) };
+          copy = copy-counted (b .tasks .table) (b .tasks .rising) long (g .whole .table) (g .whole .copy);
+          high = h;
+        }
 
     past : (k : ℕ) → Rules.timeOf (s .released k) ≤ time
     past k = omega (arith, g .whole .past k, later)
 
-    pub promotable : Promotable (b .tasks) (b .jobs) time (b .ready .lists)
-    promotable =
+    pub promotable : (at : ℕ) → at ≤ lastTick → Promotable (b .tasks) (b .jobs) at (b .ready .lists)
+    promotable at h =
         record {
           ls = listAt (b .ready .lists);
           stores = lists-held (g .whole .links .stores);
-          known = λ l k m. levelled (b .jobs) k (g .whole .waiter l k m .task) (past k);
+          known = λ l k m. levelled (b .jobs) k at h (g .whole .waiter l k m .task) (past k);
           high =
               λ l k m. omega (arith, g .whole .place l k m, level-high (s .table) k (g .whole .waiter l k m .task) (Rules.deadlineIn s k) (s .clock) (omega (arith, g .whole .past k)));
         }
@@ -290,7 +298,7 @@ module _ {b : Block} {n k time : ℕ} (g : Goes b (Release n k) time) where
         → MayWait (b .tasks) jobs time (moved (viewOf b) time n .ready .lists) j
     may-wait j t a =
         record {
-          known = levelled g wide jobs j t (none-later j);
+          known = levelled g wide jobs j time (high g) t (none-later j);
           level =
               omega (
                 arith,

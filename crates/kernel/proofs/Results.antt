@@ -30,8 +30,12 @@ use Rattle.kernel.specs.declared.asks.Asked.the-variants as Asked
 use Rattle.kernel.specs.declared.asks.Planned.{Planned}
 use Rattle.kernel.specs.Block.{SameTasks}
 use Rattle.kernel.specs.Answers.{refusalIn, marginIn, answerIn}
+use Rattle.clock.specs.Advance.{Advanced}
+use Rattle.kernel.specs.declared.tests.Checked.{Checked}
+use Rattle.kernel.specs.declared.tests.Checked.the-variants as Checked
+use Rattle.kernel.specs.Tests.{checkedIn}
 use Rattle.kernel.specs.Calls.{Does, Gives, GivesBy}
-use Rattle.kernel.specs.Asks.{listedIn, GivesListing, askedIn, GivesPlan}
+use Rattle.kernel.specs.Asks.{listedIn, GivesListing, askedIn, PlansAs, GivesPlan}
 use Rattle.kernel.proofs.Views.{Sizes, blocks-one}
 use Rattle.kernel.proofs.Fifteen.{both-15}
 
@@ -74,6 +78,18 @@ answer-one (Answer.Refused q) (Answer.Accepted w m g) e = clash cc
 answer-one (Answer.Refused p) (Answer.Refused q) e =
     let same : refusalIn p ≡ refusalIn q = cc in
     ap Answer.Refused (refusal-one p q (ap Numbers.numberOf same))
+
+-- 0 where the tests passed, 1 where one failed
+abbrev failed : Numbers.Verdict → ℕ
+failed Numbers.Passed = 0
+failed (Numbers.Failed r) = 1
+
+-- what the tests found
+pub checked-one : (a b : Checked) → checkedIn a ≡ checkedIn b → a ≡ b
+checked-one (Checked.Go t) (Checked.Go u) e = ap (λ (x : Advanced). Checked.Go (x .time)) e
+checked-one (Checked.Go t) (Checked.No q) e = clash (ap (λ (x : Advanced). failed (x .verdict)) e)
+checked-one (Checked.No p) (Checked.Go u) e = clash (sym (ap (λ (x : Advanced). failed (x .verdict)) e))
+checked-one (Checked.No p) (Checked.No q) e = ap Checked.No (refusal-one p q (ap (λ (x : Advanced). Numbers.numberIn (x .verdict)) e))
 
 -- ---- the calls
 
@@ -119,14 +135,15 @@ buffer-is (Listed.Waiting n) buffer = refl
 buffer-is Listed.NotWhole buffer = refl
 buffer-is Listed.BufferTooShort buffer = refl
 
+-- of what they say there is one answer and one buffer
+pub listed-one : (r x : Listed) (after last : List ℕ) → listedIn x last ≡ listedIn r after → (x ≡ r) × (last ≡ after)
+listed-one r x after last e = (
+  sym (listed-same x last) ∙ ap (λ (y : Rules.Listed). listed-by (Numbers.numberIn (y .verdict)) (y .waiting)) e ∙ listed-same r after,
+  sym (buffer-is x last) ∙ ap (λ (y : Rules.Listed). y .buffer) e ∙ buffer-is r after,
+)
+
 pub listing-one : (b : Block) (before : List ℕ) (r x : Listed) (after last : List ℕ) → GivesListing b before r after → GivesListing b before x last → (x ≡ r) × (last ≡ after)
-listing-one b before r x after last = both-15 ((x ≡ r) × (last ≡ after)) (λ w p q. from (q ∙ sym p))
-  where
-    from : listedIn x last ≡ listedIn r after → (x ≡ r) × (last ≡ after)
-    from e = (
-      sym (listed-same x last) ∙ ap (λ (y : Rules.Listed). listed-by (Numbers.numberIn (y .verdict)) (y .waiting)) e ∙ listed-same r after,
-      sym (buffer-is x last) ∙ ap (λ (y : Rules.Listed). y .buffer) e ∙ buffer-is r after,
-    )
+listing-one b before r x after last = both-15 ((x ≡ r) × (last ≡ after)) (λ w p q. listed-one r x after last (q ∙ sym p))
 
 asked-by : ℕ → Asked
 asked-by number = pick (eqb number 0) Asked.Given (pick (eqb number 7) Asked.NoSuchTask Asked.NotWhole)
@@ -137,8 +154,10 @@ asked-same Asked.Given = refl
 asked-same Asked.NotWhole = refl
 asked-same Asked.NoSuchTask = refl
 
+pub plans-one : (y : Calls.Planned) (r x : Planned) → PlansAs y r → PlansAs y x → x ≡ r
+plans-one y r x p q =
+    ap₂ (λ (a : Asked) (z : Plan). record { answer = a; plan = z })
+    (sym (asked-same (x .answer)) ∙ ap (λ (v : Numbers.Verdict). asked-by (Numbers.numberIn v)) (q .answer ∙ sym (p .answer)) ∙ asked-same (r .answer)) (q .plan ∙ sym (p .plan))
+
 pub plan-one : (b : Block) (k : ℕ) (r x : Planned) → GivesPlan b k r → GivesPlan b k x → x ≡ r
-plan-one b k r x =
-    both-15 (x ≡ r)
-    (λ w p q. ap₂ (λ (a : Asked) (y : Plan). record { answer = a; plan = y })
-    (sym (asked-same (x .answer)) ∙ ap (λ (v : Numbers.Verdict). asked-by (Numbers.numberIn v)) (q .answer ∙ sym (p .answer)) ∙ asked-same (r .answer)) (q .plan ∙ sym (p .plan)))
+plan-one b k r x = both-15 (x ≡ r) (λ w p q. plans-one _ r x p q)

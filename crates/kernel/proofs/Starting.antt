@@ -129,7 +129,7 @@ zero-lists sz st =
 
 -- ---- one result
 
-fresh-one : {tasks : Tasks} {reading : ℕ} {a b : Block} → Sized (a .ready .lists) → Sized (b .ready .lists) → Fresh tasks reading a → Fresh tasks reading b → a ≡ b
+pub fresh-one : {tasks : Tasks} {reading : ℕ} {a b : Block} → Sized (a .ready .lists) → Sized (b .ready .lists) → Fresh tasks reading a → Fresh tasks reading b → a ≡ b
 fresh-one {tasks} {reading} {a} {b} sa sb f g =
     let held : a .tasks ≡ b .tasks = f .held ∙ sym (g .held) in
     let jobs : a .jobs ≡ b .jobs = f .jobs ∙ sym (g .jobs) in

@@ -17,8 +17,9 @@
 // first; every other active job waits once, in the list of its level, each list in that same order (specs/Demands).
 //
 // Each public call is the whole-test and then an inner form, whose name ends in _whole and which requires a whole block. An inner form
-// takes a step for each occupied list and each job that moves, a search in the rising copy for each of these, and no walk along a list;
-// listing and plan take a step for each level and job. The whole-test takes some steps for each task, each level and each place.
+// takes a step for each occupied list and, with a search in the rising copy, for each job that moves; it walks along no list. The listing
+// takes a step for each level and job, a plan for each task. The whole-test takes some steps for each task, level and place, and sorts the
+// deadlines again to compare the copy.
 ghost use mathlib.Core.Path.{_≡_};
 ghost use Rattle.laws.specs.Words.{Decides};
 ghost use Rattle.rules.specs.Numbers.{numberOf};

@@ -12,9 +12,10 @@ use Rattle.lists.proofs.Walks.{list-held}
 use Rattle.lists.proofs.Determined.{arrays-one}
 use Rattle.lists.proofs.Results.{who-one}
 use Rattle.ready.specs.declared.Ready.{Ready}
+use Rattle.ready.specs.declared.Releveled.{Releveled}
 use Rattle.ready.specs.declared.promotion.Promoted.{Promoted}
 use Rattle.ready.specs.declared.promotion.Next.{Next}
-use Rattle.ready.specs.Keep.{readyIn, Keeps, Keeping, Becomes, metBy}
+use Rattle.ready.specs.Keep.{readyIn, Keeps, Keeping, Becomes, Relevels, metBy}
 use Rattle.ready.specs.Promote.{frontGoes, DrainedTo, PromotedTo}
 
 -- what is kept is what is read
@@ -29,6 +30,12 @@ keeps-one a b sa sb p q =
 -- enter, leave
 pub becomes-result : {r : Ready} → Keeping r → (f : Rules.Ready → Rules.Ready) (a b : Ready) → Sized (a .lists) → Sized (b .lists) → Becomes r f a → Becomes r f b → a ≡ b
 becomes-result h f a b sa sb p q = keeps-one a b sa sb (p (h .ready) (h .keeps)) (q (h .ready) (h .keeps))
+
+-- relevel
+pub releveled-result : {r : Ready} → Keeping r → (new : ℕ → ℕ) (a b : Releveled) → Sized (a .ready .lists) → Sized (b .ready .lists) → Relevels new r a → Relevels new r b → a ≡ b
+releveled-result h new a b sa sb p q =
+    ap₂ (λ (x : Ready) (m : ℕ). record { ready = x; moves = m }) (becomes-result h _ (a .ready) (b .ready) sa sb (p .keeps) (q .keeps))
+    (p .moves (h .ready) (h .keeps) ∙ sym (q .moves (h .ready) (h .keeps)))
 
 -- `requires` says that there are lists; `ensures` speaks of any
 module _ {s : Lists} (h : Holds s) where

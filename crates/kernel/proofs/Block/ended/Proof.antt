@@ -5,7 +5,7 @@ use borrow.Author.Needs.{needs}
 use lib.ListN.{length}
 use Rattle.laws.proofs.Arrays.{long-map}
 use Rattle.rules.specs.Table.{most}
-use Rattle.kernel.proofs.Commits.{promotable, releveled-moves, releveled-keeps, place, running-task, running-dated, margin-held, ended-does}
+use Rattle.kernel.proofs.Commits.{ticks, promotable, releveled-moves, releveled-keeps, place, running-task, running-dated, margin-held, ended-does}
 use Rattle.kernel.proofs.Block.ended.Statement.{statement}
 use Rattle.kernel.proofs.Block.ended.Tie as tie
 
@@ -19,7 +19,7 @@ time-left-requires : tie.Need-time-left-requires
 time-left-requires c κs = running-dated (c .before .before .before .before .pre)
 
 relevel-requires : tie.Need-relevel-requires
-relevel-requires c κs = let a = c .before .before .before .before .before in promotable (a .pre) (tasks a)
+relevel-requires c κs = let a = c .before .before .before .before .before in promotable (a .pre) (tasks a) _ (search (needs, ticks (a .pre)))
 
 cast-k : tie.Need-cast-k
 cast-k c = search needs

@@ -3,7 +3,7 @@ use borrow.Author.Needs.{needs}
 use lib.ListN.{length}
 use Rattle.laws.proofs.Arrays.{long-map}
 use Rattle.rules.specs.Table.{most}
-use Rattle.kernel.proofs.Commits.{promotable, releveled-moves, releveled-keeps, moved-does}
+use Rattle.kernel.proofs.Commits.{ticks, promotable, releveled-moves, releveled-keeps, moved-does}
 use Rattle.kernel.proofs.Block.moved.Statement.{statement}
 use Rattle.kernel.proofs.Block.moved.Tie as tie
 
@@ -11,7 +11,7 @@ tasks : (c : tie.Start) → length (c .args .self .tasks .table .tasks) ≡ most
 tasks c = search (needs, long-map)
 
 relevel-requires : tie.Need-relevel-requires
-relevel-requires c κs = let a = c .before .before .before in promotable (a .pre) (tasks a)
+relevel-requires c κs = let a = c .before .before .before in promotable (a .pre) (tasks a) _ (search (needs, ticks (a .pre)))
 
 accepted-requires : tie.Need-accepted-requires
 accepted-requires c κs = search needs

@@ -5,7 +5,7 @@ use borrow.Author.Needs.{needs}
 use lib.ListN.{length}
 use Rattle.laws.proofs.Arrays.{long-map}
 use Rattle.rules.specs.Table.{most}
-use Rattle.kernel.proofs.Commits.{promotable, releveled-moves, releveled-keeps, place, released-task, enterable, begun-does}
+use Rattle.kernel.proofs.Commits.{ticks, promotable, releveled-moves, releveled-keeps, place, released-task, enterable, begun-does}
 use Rattle.kernel.proofs.Block.released.Statement.{statement}
 use Rattle.kernel.proofs.Block.released.Tie as tie
 
@@ -16,7 +16,7 @@ jobs : (c : tie.Start) → length (c .args .t1 .jobs) ≡ suc most
 jobs c = search (needs, long-map)
 
 relevel-requires : tie.Need-relevel-requires
-relevel-requires c κs = let a = c .before .before .before in promotable (a .pre) (tasks a)
+relevel-requires c κs = let a = c .before .before .before in promotable (a .pre) (tasks a) _ (search (needs, ticks (a .pre)))
 
 cast-k : tie.Need-cast-k
 cast-k c = search needs
