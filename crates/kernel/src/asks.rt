@@ -74,6 +74,7 @@ impl Block {
         self.listing_whole(buffer)
     }
 
+    // Of a whole block, which the whole-test has told: test 11, and the listing.
     pub fn listing_whole(self, buffer: &mut [u8]) -> Listed
         requires { ⌜ Whole self ⌝ }
         ensures { λ r. ⌜ listedIn r (now (buffer .exit)) ≡ listedOf (viewOf self) (now (buffer .entry)) ⌝ }
@@ -101,6 +102,7 @@ impl Block {
         self.plan_whole(task)
     }
 
+    // Of a whole block: test 7, and the plan.
     pub fn plan_whole(self, task: TaskNo) -> Planned
         requires { ⌜ Whole self ⌝ }
         ensures { λ r. ⌜ PlansAs (plannedOf (viewOf self) (task .0)) r ⌝ }

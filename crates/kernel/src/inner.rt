@@ -28,6 +28,7 @@ impl Block {
         }
     }
 
+    // 5, 6, 7, 8, 9, and the commit. (These three require a whole block, which the whole-test has told; who calls them otherwise shows it.)
     pub fn release_whole(self, reading: u32, task: TaskNo) -> Called
         requires { ⌜ Whole self ⌝ }
         ensures { λ r. ⌜ Does self (Release reading (task .0)) r ⌝ }
@@ -39,6 +40,7 @@ impl Block {
         }
     }
 
+    // 5, 6, 7, 10, and the commit.
     pub fn done_whole(self, reading: u32, task: TaskNo) -> Called
         requires { ⌜ Whole self ⌝ }
         ensures { λ r. ⌜ Does self (Done reading (task .0)) r ⌝ }
@@ -50,6 +52,7 @@ impl Block {
         }
     }
 
+    // 5, 6, and the commit.
     pub fn clock_whole(self, reading: u32) -> Called
         requires { ⌜ Whole self ⌝ }
         ensures { λ r. ⌜ Does self (Clock reading) r ⌝ }
