@@ -15,6 +15,14 @@ use table::Task;
 use table::TaskNo;
 
 fn main() {
+    paper();
+    latest();
+    earliest();
+    refused();
+}
+
+// Document 003, Example 1.
+fn paper() {
     let none = Task { c: 0, d: 0, t: 0 };
     let mut tasks = [none; MOST];
     tasks[0] = Task { c: 1, d: 2, t: 4 };
@@ -27,26 +35,51 @@ fn main() {
     plan_line(block, 3);
     events(block);
     listings(block);
+}
 
-    tasks[0] = Task { c: 1, d: 1, t: 1 };
-    let started = start(Table { count: 1, tasks }, 0);
+fn latest() {
+    let one = Task { c: 1, d: 1, t: 1 };
+    let started = start(
+        Table {
+            count: 1,
+            tasks: [one; MOST],
+        },
+        0,
+    );
     let block = started.block;
     clock_end(block);
+}
 
-    tasks[0] = Task {
+fn earliest() {
+    text(b"a job that ends as it is released, the largest deadline\n");
+    let one = Task {
         c: 1,
         d: 1073741824,
         t: 1073741824,
     };
-    let started = start(Table { count: 1, tasks }, 0);
+    let started = start(
+        Table {
+            count: 1,
+            tasks: [one; MOST],
+        },
+        0,
+    );
     let block = started.block;
-    text(b"a job that ends as it is released, the largest deadline\n");
     let block = release(block, 1, 0, 1);
     done(block, 2, 0, 1);
+}
 
-    let started = start(Table { count: 0, tasks }, 0);
-    let block = started.block;
+fn refused() {
     text(b"a refused start's block\n");
+    let none = Task { c: 0, d: 0, t: 0 };
+    let started = start(
+        Table {
+            count: 0,
+            tasks: [none; MOST],
+        },
+        0,
+    );
+    let block = started.block;
     clock(block, 1, 0);
 }
 
