@@ -37,6 +37,7 @@ fn paper() {
     listings(block);
 }
 
+// A job that is as late as a job can be.
 fn latest() {
     let one = Task { c: 1, d: 1, t: 1 };
     let started = start(
@@ -50,6 +51,7 @@ fn latest() {
     clock_end(block);
 }
 
+// A job that has as much time left as a job can have.
 fn earliest() {
     text(b"a job that ends as it is released, the largest deadline\n");
     let one = Task {
@@ -69,6 +71,7 @@ fn earliest() {
     done(block, 2, 0, 1);
 }
 
+// A table of no tasks: start is refused, and so is any call on the block that it hands back.
 fn refused() {
     text(b"a refused start's block\n");
     let none = Task { c: 0, d: 0, t: 0 };
