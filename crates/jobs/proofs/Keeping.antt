@@ -13,7 +13,7 @@ use lib.Seq.{getD-set-other}
 use Rattle.laws.specs.Words.{pick, put}
 use Rattle.laws.proofs.Bools.{both-le, true-false}
 use Rattle.laws.proofs.Families.{set-put}
-use Rattle.rules.specs.Table.{Task, most, isTask}
+use Rattle.rules.specs.Table.{Task, most, isTask, taskAt}
 use Rattle.rules.specs.Levels.{remainingOf, levelOf}
 use Rattle.rules.specs.State.{timeOf, deadlineOf}
 use Rattle.rules.specs.State as Rules
@@ -45,11 +45,13 @@ module _ {table : Table} {jobs : List Job} {k : ℕ} (w : Dated table jobs k) wh
         let h : (1 ≤ k) × (k ≤ length (tableOf table)) = both-le (w .task) in
         (h .0, omega (arith, h .1, table-length table long), few-passed table long (w .tested))
 
+    -- the task's entry of the stored table
+    pub dated-entry : taskAt (tableOf table) k ≡ nth table (k - 1)
+    dated-entry = let h = dated-task in table-at table long (h .2) (k - 1) (omega arith)
+
     -- "r + D", from the job's place and the task's
     pub dated-deadline : timeOf (lastIn (jobAt jobs k .last)) + nth table (k - 1) .d ≡ deadlineOf (tableOf table) (releasedIn table jobs) k
-    dated-deadline =
-        let h = dated-task in
-        ap₂ (λ (a b : ℕ). a + b) (sym dated-time) (sym (ap (λ (x : Task). x .d) (table-at table long (h .2) (k - 1) (omega arith))))
+    dated-deadline = ap₂ (λ (a b : ℕ). a + b) (sym dated-time) (sym (ap (λ (x : Task). x .d) dated-entry))
 
 -- ---- levels
 

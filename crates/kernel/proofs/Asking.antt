@@ -26,7 +26,7 @@ use Rattle.kernel.specs.declared.asks.Asked.the-variants as Asked
 use Rattle.kernel.specs.declared.asks.Listed.the-variants as Listed
 use Rattle.kernel.specs.Block.{viewOf, Whole}
 use Rattle.kernel.specs.Asks.{listedIn, PlansAs}
-use Rattle.kernel.proofs.Testing.{dated-entry}
+use Rattle.jobs.proofs.Keeping.{dated-entry}
 
 -- ---- the listing
 

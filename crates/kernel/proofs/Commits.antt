@@ -58,7 +58,7 @@ use Rattle.kernel.specs.declared.tests.Checked.the-variants as Checked
 use Rattle.kernel.specs.Answers.{refusalIn, answerIn}
 use Rattle.kernel.specs.Tests.{checkedIn, checkedOf}
 use Rattle.kernel.specs.Calls.{Does, refusedAs, acceptedAs, Goes}
-use Rattle.kernel.proofs.Testing.{verdict-kept, time-kept}
+use Rattle.clock.proofs.Answers.{verdict-kept, time-kept}
 
 -- ---- what the tests found
 

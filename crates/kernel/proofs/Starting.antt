@@ -1,13 +1,12 @@
 -- What start gives back: the rules' start where the table is sound, and zeros where it is not. Assumes nothing.
 use mathlib.Core.Path.{_≡_, refl, sym, ap, _∙_, subst, fun-ext}
 use mathlib.Core.Bool.{Bool, true, false, and-false}
-use mathlib.Core.Logic.{⊎-elim}
 use mathlib.Core.List.{List, [], _∷_, _++_}
 use Prim.Native.Nat.{ℕ, zero, suc, _-_}
 use native.Mathlib.Omega.{arith}
 use types.Run.{OneOf}
 use denote.Enum.Declared.{tagOf}
-use lib.ListN.{length, take, replicate, length-replicate}
+use lib.ListN.{length, take, replicate}
 use Rattle.laws.specs.Words.{pick}
 use Rattle.rules.specs.Numbers.{Refusal, Passed, Failed, firstOf}
 use Rattle.rules.specs.Table.{Task, most, isTask, testsTo3, verdictOf}
@@ -22,16 +21,13 @@ use Rattle.table.specs.declared.Verdict.{Verdict}
 use Rattle.table.specs.declared.Verdict.the-variants as Verdict
 use Rattle.table.specs.Stored.{tableOf, verdictIn}
 use Rattle.table.proofs.Verdict.{the-type}
-use Rattle.table.proofs.Tests.{table-length, verdict-one}
+use Rattle.table.proofs.Tests.{table-length, verdict-one, not-sound}
 use Rattle.levels.proofs.Copies.{laid-first}
-use Rattle.lists.specs.declared.Lists.{Lists}
-use Rattle.lists.specs.Links.{nobody, Stores}
 use Rattle.lists.specs.Answers.{whoIn}
 use Rattle.lists.specs.Test.{listAt}
 use Rattle.lists.proofs.Storage.{Sized}
 use Rattle.lists.proofs.Walks.{list-held}
 use Rattle.lists.proofs.Determined.{arrays-one}
-use Rattle.lists.proofs.Operations.{stores-empty}
 use Rattle.jobs.specs.declared.Job.{Job}
 use Rattle.jobs.specs.declared.Tasks.{Tasks}
 use Rattle.jobs.specs.Kept.{noJob, jobAt, releasedIn, activeIn}
@@ -42,17 +38,6 @@ use Rattle.kernel.specs.Block.{viewOf, Whole}
 use Rattle.kernel.specs.Start.{Fresh, laidDown, noTasks, StartsBy, Starts}
 
 -- ---- start meets its contract
-
--- an answer that is not Sound is a refusal
-not-sound : (v : Verdict) → OneOf (1 ∷ 2 ∷ 3 ∷ 4 ∷ []) (tagOf the-type v) → (q : Refusal) × (verdictIn v ≡ Failed q)
-not-sound Verdict.Sound h = absurd (other h)
-  where
-    other : OneOf (1 ∷ 2 ∷ 3 ∷ 4 ∷ []) 0 → ⊥
-    other h = ⊎-elim (λ e. omega arith) (⊎-elim (λ e. omega arith) (⊎-elim (λ e. omega arith) (λ e. omega arith))) h
-not-sound Verdict.TableSize h = (_, refl)
-not-sound (Verdict.OutOfRange k) h = (_, refl)
-not-sound (Verdict.OutOfOrder k) h = (_, refl)
-not-sound Verdict.Overload h = (_, refl)
 
 module _ (table : Table) (reading : ℕ) where
   pub starts-sound : {b : Block} {copy : List ℕ} → verdictOf (tableOf table) ≡ Passed → copy ≡ risingOf (tableOf table) ++ replicate (most - table .count) 0
@@ -119,13 +104,6 @@ pub refused-start-not-whole : {table : Table} {reading : ℕ} {r : Started} → 
 refused-start-not-whole {table} {reading} {r} st q e w =
     let f : Fresh noTasks 0 (r .block) = subst (StartsBy table reading (r .block)) e (st .block) in
     omega (arith, passed-to-3 [] (subst (λ (ts : List Task). firstOf (testsTo3 ts) ≡ Passed) (ap (λ (t : Tasks). tableOf (t .table)) (f .held) ∙ no-table) (w .table)))
-
--- "every field is zero or nobody": arrays that store no job
-pub zero-lists : {s : Lists} → Sized s → Stores s (λ l. []) → s ≡ record { first = replicate (suc most) nobody; last = replicate (suc most) nobody; next = replicate (suc most) nobody; map = 0 }
-zero-lists sz st =
-    arrays-one sz
-    (record { first = length-replicate (suc most) nobody; last = length-replicate (suc most) nobody; next = length-replicate (suc most) nobody; map = omega arith })
-    st (stores-empty (suc most))
 
 -- ---- one result
 

@@ -1,5 +1,5 @@
 -- What the tests of a call find, test by test. Assumes nothing.
-use mathlib.Core.Path.{_≡_, refl, sym, ap, _∙_}
+use mathlib.Core.Path.{_≡_, sym, ap, _∙_}
 use mathlib.Core.Bool.{Bool, true, false, not, _&&_}
 use mathlib.Core.List.{List, _∷_}
 use Prim.Native.Nat.{ℕ, _+_, _-_}
@@ -7,25 +7,23 @@ use native.Mathlib.Omega.{arith}
 use borrow.Author.Tests.{not-true, not-false}
 use lib.Dec.{eqb, ltb, leb}
 use lib.ListN.{length}
-use Rattle.rules.specs.Numbers.{Test, Verdict, Passed, Failed, firstOf}
-use Rattle.rules.specs.Table.{most, taskAt, isTask}
+use Rattle.rules.specs.Numbers.{Test, Passed, firstOf}
+use Rattle.rules.specs.Table.{most, isTask}
 use Rattle.rules.specs.State.{State, timeOf}
 use Rattle.rules.specs.Calls.{Call, Clock, readingOf, timeAt, tooSoon, isRunning, clockTests, taskTest, laterTests, testsOf}
 use Rattle.rules.proofs.Verdicts.{first-append, first-append-failed}
-use Rattle.table.specs.declared.Table.{Table}
 use Rattle.table.specs.declared.TaskNo.{TaskNo}
-use Rattle.table.specs.Stored.{tableOf}
-use Rattle.table.proofs.Tests.{nth, table-at}
+use Rattle.table.proofs.Tests.{nth}
 use Rattle.clock.specs.Advance.{Advanced, advancedBy, advanceOf, advancedIn}
 use Rattle.clock.specs.declared.Moved.{Moved}
+use Rattle.clock.proofs.Answers.{verdict-kept, time-kept}
 use Rattle.lists.specs.declared.Who.{Who}
 use Rattle.lists.specs.declared.Who.the-variants as Who
 use Rattle.lists.specs.Answers.{whoIn}
 use Rattle.jobs.specs.declared.Last.{Last}
 use Rattle.jobs.specs.declared.Last.the-variants as Last
-use Rattle.jobs.specs.declared.Job.{Job}
 use Rattle.jobs.specs.Kept.{lastIn, jobAt, Dated}
-use Rattle.jobs.proofs.Keeping.{task-asked, dated-task}
+use Rattle.jobs.proofs.Keeping.{task-asked, dated-entry}
 use Rattle.kernel.specs.declared.Block.{Block}
 use Rattle.kernel.specs.declared.Refusal.{Refusal}
 use Rattle.kernel.specs.declared.Refusal.the-variants as Refusal
@@ -41,13 +39,6 @@ use Rattle.kernel.specs.Tests.{checkedIn, goOn, checkedOf, releaseTestsO
 pub clock-answered : (s : State) (n : ℕ) {a b : Moved} → a ≡ b → advancedIn a ≡ advanceOf (s .clock) (s .reading) n → advancedIn b ≡ checkedOf s (Clock n)
 unfolding advanceOf testsOf
 clock-answered s n e h = ap advancedIn (sym e) ∙ h
-
-pub verdict-kept : (time : ℕ) (v : Verdict) → advancedBy time v .verdict ≡ v
-verdict-kept time Passed = refl
-verdict-kept time (Failed r) = refl
-
-pub time-kept : (time : ℕ) (v : Verdict) → v ≡ Passed → advancedBy time v .time ≡ time
-time-kept time v e = rw e
 
 -- a call's tests 5 and 6
 abbrev early : State → Call → List Test
@@ -102,10 +93,6 @@ module _ {l : Last} {t : ℕ} (e : l ≡ Last.At t) where
 
   pub soon-at : (spacing time : ℕ) → ltb time (t + spacing) ≡ tooSoon (lastIn l) spacing time
   soon-at spacing time = rw e
-
--- the task's entry of the stored table
-pub dated-entry : {table : Table} {jobs : List Job} {k : ℕ} → Dated table jobs k → length (table .tasks) ≡ most → taskAt (tableOf table) k ≡ nth table (k - 1)
-dated-entry {table} {jobs} {k} d long = let h = dated-task d long in table-at table long (h .2) (k - 1) (omega arith)
 
 module _ (b : Block) (time k : ℕ) (d : Dated (b .tasks .table) (b .jobs) k) where
   pub task-active : jobAt (b .jobs) k .active ≡ true → checkedIn (Checked.No Refusal.TaskActive) ≡ goOn time (releaseTestsOf (viewOf b) time k)

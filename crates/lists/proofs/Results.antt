@@ -1,20 +1,24 @@
 -- Two results that a contract allows are equal, where the contract speaks of any lists that are stored, or of marks. Assumes nothing.
 use mathlib.Core.Path.{_≡_, refl, sym, ap, ap₂, _∙_}
 use mathlib.Core.Bool.{Bool}
-use mathlib.Core.List.{List}
-use Prim.Native.Nat.{ℕ}
+use mathlib.Core.List.{List, []}
+use Prim.Native.Nat.{ℕ, suc}
+use native.Mathlib.Omega.{arith}
+use lib.ListN.{replicate, length-replicate}
 use Rattle.laws.specs.Words.{pick}
+use Rattle.rules.specs.Table.{most}
 use Rattle.rules.specs.State.{Running, Nobody, One}
 use Rattle.lists.specs.declared.Lists.{Lists}
 use Rattle.lists.specs.declared.Popped.{Popped}
 use Rattle.lists.specs.declared.Who.{Who}
 use Rattle.lists.specs.declared.Who.the-variants as Who
 use Rattle.lists.specs.declared.test.Gone.{Gone}
-use Rattle.lists.specs.Links.{Stores}
+use Rattle.lists.specs.Links.{nobody, Stores}
 use Rattle.lists.specs.Answers.{whoIn, PopsFrom, Holds, ListedFrom}
 use Rattle.lists.specs.Test.{listAt, marked, Went}
 use Rattle.lists.proofs.Storage.{Sized}
 use Rattle.lists.proofs.Determined.{arrays-one}
+use Rattle.lists.proofs.Operations.{stores-empty}
 
 -- an answer that says the same is the same
 who-said : Running → Who
@@ -70,3 +74,10 @@ gone-result s l before a b p q =
     let ok : a .ok ≡ b .ok = p .ok ∙ sym (q .ok) in
     ap₂ (λ (t : Bool) (seen : List Bool). record { ok = t; seen = seen }) ok
     (p .seen ∙ ap (λ (t : Bool). pick t (marked before (listAt s l)) before) ok ∙ sym (q .seen))
+
+-- arrays that store no job are zeros, and so is the map
+pub zero-lists : {s : Lists} → Sized s → Stores s (λ l. []) → s ≡ record { first = replicate (suc most) nobody; last = replicate (suc most) nobody; next = replicate (suc most) nobody; map = 0 }
+zero-lists sz st =
+    arrays-one sz
+    (record { first = length-replicate (suc most) nobody; last = length-replicate (suc most) nobody; next = length-replicate (suc most) nobody; map = omega arith })
+    st (stores-empty (suc most))

@@ -1,17 +1,20 @@
 -- A stored table as a list of tasks, and its tests task by task. Assumes nothing.
 use mathlib.Core.Path.{_≡_, refl, sym, ap, ap₂, _∙_, subst}
 use mathlib.Core.Bool.{true, false}
+use mathlib.Core.Logic.{⊎-elim}
 use mathlib.Core.List.{List, [], _∷_, map, append-nil}
 use Prim.Native.Nat.{ℕ, suc, _+_, _-_, _≤_, _<_}
 use native.Mathlib.Nat.{div-le-of-le-mul, mul-comm}
 use native.Mathlib.Numerals.{add-one}
 use native.Mathlib.Omega.{arith}
+use types.Run.{OneOf}
+use denote.Enum.Declared.{tagOf}
 use borrow.Author.Tests.{le-leb, lt-leb}
 use lib.Dec.{eqb}
 use lib.ListN.{length, take, drop, drop-of-length-le, getD, replicate, length-append, length-map, length-take, length-replicate, List·getD-map}
 use lib.Seq.{drop-cons, drop-length, getD-take}
 use Rattle.laws.specs.Words.{pick, sum}
-use Rattle.rules.specs.Numbers.{TableSize, OutOfRange, OutOfOrder, Overload, Verdict, Passed, Failed, numberIn, taskWith, firstOf}
+use Rattle.rules.specs.Numbers.{Refusal, TableSize, OutOfRange, OutOfOrder, Overload, Verdict, Passed, Failed, numberIn, taskWith, firstOf}
 use Rattle.rules.specs.Table.{Task, most, ranged, ordered, shareOf, loadOf, tasksTests, testsTo3, verdictOf}
 use Rattle.rules.specs.Refusals.{Ranged, Ordered}
 use Rattle.rules.proofs.Tables.{passed-to-3, demand-1-table}
@@ -19,6 +22,7 @@ use Rattle.table.specs.declared.Table.{Table}
 use Rattle.table.specs.declared.Verdict as Answer
 use Rattle.table.specs.declared.Verdict.the-variants as Says
 use Rattle.table.specs.Stored.{taskOf, tableOf, verdictIn}
+use Rattle.table.proofs.Verdict.{the-type}
 
 -- ---- the list of tasks
 
@@ -177,3 +181,14 @@ number-one a b n k = sym (is-numbered a) ∙ ap₂ numbered n k ∙ is-numbered 
 -- and so does what it says
 pub verdict-one : (a b : Answer.Verdict) → verdictIn a ≡ verdictIn b → a ≡ b
 verdict-one a b e = number-one a b (ap numberIn e) (ap taskWith e)
+
+-- an answer that is not `Sound` is a refusal
+pub not-sound : (v : Answer.Verdict) → OneOf (1 ∷ 2 ∷ 3 ∷ 4 ∷ []) (tagOf the-type v) → (q : Refusal) × (verdictIn v ≡ Failed q)
+not-sound Says.Sound h = absurd (other h)
+  where
+    other : OneOf (1 ∷ 2 ∷ 3 ∷ 4 ∷ []) 0 → ⊥
+    other h = ⊎-elim (λ e. omega arith) (⊎-elim (λ e. omega arith) (⊎-elim (λ e. omega arith) (λ e. omega arith))) h
+not-sound Says.TableSize h = (_, refl)
+not-sound (Says.OutOfRange k) h = (_, refl)
+not-sound (Says.OutOfOrder k) h = (_, refl)
+not-sound Says.Overload h = (_, refl)

@@ -1,30 +1,15 @@
 use mathlib.Core.Path.{_≡_, sym, ap, _∙_}
-use mathlib.Core.Logic.{⊎-elim}
-use mathlib.Core.List.{[], _∷_}
-use native.Mathlib.Omega.{arith}
-use types.Run.{OneOf}
-use denote.Enum.Declared.{tagOf}
 use borrow.Author.Needs.{needs}
 use lib.ListN.{length}
 use Rattle.laws.proofs.Arrays.{long-map}
-use Rattle.laws.proofs.Bools.{clash, decides-same}
+use Rattle.laws.proofs.Bools.{decides-same}
 use Rattle.rules.specs.Numbers.{Passed, firstOf}
 use Rattle.rules.specs.Table.{most, testsTo3}
-use Rattle.table.specs.declared.Verdict.{Verdict}
-use Rattle.table.specs.declared.Verdict.the-variants.{Sound, TableSize, OutOfRange, OutOfOrder, Overload}
+use Rattle.rules.proofs.Verdicts.{passed-failed}
 use Rattle.table.specs.Stored.{tableOf, verdictIn}
-use Rattle.table.proofs.Verdict.{the-type}
-use Rattle.table.proofs.Tests.{few-passed}
+use Rattle.table.proofs.Tests.{few-passed, not-sound}
 use Rattle.whole.proofs.tasks_whole.Statement.{statement}
 use Rattle.whole.proofs.tasks_whole.Tie as tie
-
--- an answer other than `Sound`
-refused : (v : Verdict) → OneOf (1 ∷ 2 ∷ 3 ∷ 4 ∷ []) (tagOf the-type v) → verdictIn v ≡ Passed → ⊥
-refused Sound h e = ⊎-elim (λ e. omega arith) (⊎-elim (λ e. omega arith) (⊎-elim (λ e. omega arith) (λ e. omega arith))) h
-refused TableSize h e = clash cc
-refused (OutOfRange k) h e = clash cc
-refused (OutOfOrder k) h e = clash cc
-refused Overload h e = clash cc
 
 long : (c : tie.Start) → length (c .args .tasks .table .tasks) ≡ most
 long c = search (needs, long-map)
@@ -45,7 +30,7 @@ returns : tie.Need-returns
 returns c = decides-same _ _ (c .agrees .result) (λ e. record { table = passed (c .before .before); copy = e }) (λ w. w .copy) (c .agrees .ensures)
 
 returns-2 : tie.Need-returns-2
-returns-2 c = λ w. refused (c .before .tests-to-3 .result) (c .match .keys2) (c .before .tests-to-3 .ensures ∙ w .table)
+returns-2 c = λ w. let r = not-sound (c .before .tests-to-3 .result) (c .match .keys2) in passed-failed _ (r .0) (c .before .tests-to-3 .ensures ∙ w .table) (r .1)
 
 pub tasks-whole-spec : {M : Type 1} → statement M
 tasks-whole-spec =
