@@ -13,8 +13,8 @@
 //     block.listing(buffer)              15, 11                 asks
 //     block.plan(task)                   15, 7
 //
-// Of a block that an accepted start gave this always holds: the running job has the earliest deadline, and of equals the release call that came
-// first; every other active job waits once, in the list of its level, each list in that same order (specs/Demands).
+// Of a block that an accepted start gave this always holds: the running job has the earliest deadline, and of equals the release call
+// that came first; every other active job waits once, in the list of its level, each list in that same order (specs/Demands).
 //
 // Each public call is the whole-test and then an inner form, whose name ends in _whole and which requires a whole block. An inner form
 // takes a step for each occupied list and, with a search in the rising copy, for each job that moves; it walks along no list. The listing

@@ -31,9 +31,9 @@ use Rattle.jobs.specs.Kept.{jobAt, releasedIn, activeIn}
 use Rattle.jobs.proofs.Keeping.{task-asked}
 use Rattle.ready.specs.declared.Ready.{Ready}
 use Rattle.ready.specs.Keep.{readyIn}
-use Rattle.whole.specs.Whole.{viewIn}
-use Rattle.whole.specs.Parts.{Tested, QueueWhole, byteLevel, byteTask, tasksIn, inRow, WaitsRight, ActiveAs, RunsWhole}
-use Rattle.whole.proofs.Wholeness.{parts-whole, whole-state}
+use Rattle.whole.specs.Whole.{viewIn, Whole}
+use Rattle.whole.specs.Parts.{Tested, byteLevel, byteTask, tasksIn, inRow, WaitsRight, ActiveAs, RunsWhole}
+use Rattle.whole.proofs.Wholeness.{whole-state, state-whole}
 use Rattle.whole.proofs.Reading.{tasks-length, tasks-at, Read}
 
 -- ---- jobs in order
@@ -123,21 +123,27 @@ module _ {tasks : Tasks} {jobs : List Job} {ready : Ready} {clock first n : ℕ}
           task = row-task k m;
         }
 
-    pub runs-queue : QueueWhole tasks jobs ready clock
-    runs-queue =
-        record {
+    pub runs-whole : Whole tasks jobs ready clock
+    runs-whole =
+        state-whole {reading = 0}
+        (record {
+          table = t .datable .tasks-whole .table;
           runner = λ k e. let s : k ≡ first = cc in row-active k (inl s);
           waiter = λ l k m. row-active k (inr (in-read k (waits-listed (waits-held t) l k m)));
+          clock = t .datable .ticks;
+          known = t .datable .jobs-whole .known;
+          past = t .datable .jobs-whole .past;
           once = λ k. ap (count (eqb k)) everyone-row ∙ row-counted k;
           place = λ l k m. waits-right l k m .place;
           order = lists-order (waits-held t) _ (subst (Sorted (Leads tasks jobs)) (r .tasks) (row-order .1));
           first = λ k j e m. let s : k ≡ first = cc in rw s (row-order .0 j (in-read j m));
           nobody = λ e. clash cc;
-        }
+        })
+        (t .datable .tasks-whole .copy) (t .links)
 
-  module _ (q : QueueWhole tasks jobs ready clock) where
+  module _ (q : Whole tasks jobs ready clock) where
     queue-order : Sorted (Leads tasks jobs) (first ∷ tasksIn bytes n)
-    queue-order = subst (Sorted (Leads tasks jobs)) everyone-row (whole-queue (viewIn tasks jobs ready clock 0) (whole-state (parts-whole t q) 0) .order)
+    queue-order = subst (Sorted (Leads tasks jobs)) everyone-row (whole-queue (viewIn tasks jobs ready clock 0) (whole-state q 0) .order)
 
     queue-counted : (k : ℕ) → count (eqb k) (first ∷ tasksIn bytes n) ≡ digit (activeIn (tasks .table) jobs k)
     queue-counted k = ap (count (eqb k)) (sym everyone-row) ∙ q .once k
@@ -158,8 +164,8 @@ module _ {tasks : Tasks} {jobs : List Job} {ready : Ready} {clock first n : ℕ}
     queue-task k (inl e) = q .runner k (run ∙ ap One (sym e)) .task
     queue-task k (inr m) = let (l, i) = read-in k m in q .waiter l k i .task
 
-    pub queue-runs : RunsWhole tasks jobs clock first bytes n
-    queue-runs =
+    pub whole-runs : RunsWhole tasks jobs clock first bytes n
+    whole-runs =
         record {
           task = q .runner first run .task;
           wait = λ i h.
@@ -181,25 +187,31 @@ module _ {tasks : Tasks} {jobs : List Job} {ready : Ready} {clock : ℕ} (t : Te
   everyone-none : listing (listAt (ready .lists)) ≡ [] → everyone (readyIn ready) ≡ []
   everyone-none e = ap₂ (λ (x : Running) (b : List ℕ). runs x ++ b) run e
 
-  pub none-queue : listing (listAt (ready .lists)) ≡ [] → length (tasks .table .tasks) ≡ most → ActiveAs (tasks .table .count) jobs none → QueueWhole tasks jobs ready clock
+  pub none-whole : listing (listAt (ready .lists)) ≡ [] → length (tasks .table .tasks) ≡ most → ActiveAs (tasks .table .count) jobs none → Whole tasks jobs ready clock
   unfolding marked
-  none-queue e long a =
-      record {
+  none-whole e long a =
+      state-whole {reading = 0}
+      (record {
+        table = t .datable .tasks-whole .table;
         runner = λ k o. clash cc;
         waiter = λ l k m. absurd (waits l k m);
+        clock = t .datable .ticks;
+        known = t .datable .jobs-whole .known;
+        past = t .datable .jobs-whole .past;
         once = λ k. ap (count (eqb k)) (everyone-none e) ∙ marks-once t long [] (λ j m. absurd m) tt a k;
         place = λ l k m. absurd (waits l k m);
         order = lists-order (waits-held t) _ (rw e tt);
         first = λ k j o m. clash cc;
         nobody = λ o. e;
-      }
+      })
+      (t .datable .tasks-whole .copy) (t .links)
     where
       waits : (l k : ℕ) → In k (listAt (ready .lists) l) → ⊥
       waits l k m = subst (In k) e (waits-listed (waits-held t) l k m)
 
-  pub queue-none : length (tasks .table .tasks) ≡ most → QueueWhole tasks jobs ready clock
+  pub whole-none : length (tasks .table .tasks) ≡ most → Whole tasks jobs ready clock
       → ActiveAs (tasks .table .count) jobs none × (listing (listAt (ready .lists)) ≡ [])
   unfolding marked
-  queue-none long q =
+  whole-none long q =
       let e = q .nobody run in
       (once-marks t long [] (λ j m. absurd m) (λ k. ap (count (eqb k)) (sym (everyone-none e)) ∙ q .once k), e)

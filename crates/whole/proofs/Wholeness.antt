@@ -1,4 +1,4 @@
--- A block is whole exactly when its parts are. Assumes nothing.
+-- What a whole block's parts are, and its view: a whole state, and back. Assumes nothing.
 use mathlib.Core.Path.{_≡_}
 use mathlib.Core.List.{List}
 use Prim.Native.Nat.{ℕ}
@@ -12,45 +12,14 @@ use Rattle.jobs.specs.declared.Job.{Job}
 use Rattle.jobs.specs.declared.Tasks.{Tasks}
 use Rattle.ready.specs.declared.Ready.{Ready}
 use Rattle.whole.specs.Whole.{viewIn, Whole}
-use Rattle.whole.specs.Parts.{TasksWhole, JobsWhole, Tested, QueueWhole}
+use Rattle.whole.specs.Parts.{TasksWhole, JobsWhole}
 
 module _ {tasks : Tasks} {jobs : List Job} {ready : Ready} {clock : ℕ} where
-  pub parts-whole : Tested tasks jobs ready clock → QueueWhole tasks jobs ready clock → Whole tasks jobs ready clock
-  parts-whole t q =
-      record {
-        table = t .datable .tasks-whole .table;
-        copy = t .datable .tasks-whole .copy;
-        runner = q .runner;
-        waiter = q .waiter;
-        ticks = t .datable .ticks;
-        known = t .datable .jobs-whole .known;
-        past = t .datable .jobs-whole .past;
-        once = q .once;
-        links = t .links;
-        place = q .place;
-        order = q .order;
-        first = q .first;
-        nobody = q .nobody;
-        map = lists-held (t .links .stores) .map;
-      }
-
   pub whole-tasks : Whole tasks jobs ready clock → TasksWhole tasks
   whole-tasks w = record { table = w .table; copy = w .copy }
 
   pub whole-jobs : Whole tasks jobs ready clock → JobsWhole (tasks .table) jobs clock
   whole-jobs w = record { known = w .known; past = w .past }
-
-  pub whole-queue : Whole tasks jobs ready clock → QueueWhole tasks jobs ready clock
-  whole-queue w =
-      record {
-        runner = w .runner;
-        waiter = w .waiter;
-        once = w .once;
-        place = w .place;
-        order = w .order;
-        first = w .first;
-        nobody = w .nobody;
-      }
 
   -- ---- the view
 

@@ -3,24 +3,22 @@ use Prim.Native.Nat.{ℕ, zero, suc, _+_, _*_, _≤_, _<_}
 use mathlib.Core.Path.{_≡_}
 use mathlib.Core.Bool.{Bool, true, not}
 use mathlib.Core.List.{List, [], _∷_, _++_}
-use lib.Dec.{eqb, leb}
+use lib.Dec.{leb}
 use lib.ListN.{take, getD}
-use Rattle.laws.specs.Words.{digit, count, In, Sorted}
+use Rattle.laws.specs.Words.{count}
 use Rattle.rules.specs.Numbers.{Passed, firstOf}
 use Rattle.rules.specs.Table.{most, isTask, testsTo3}
 use Rattle.rules.specs.Levels.{risingOf}
 use Rattle.rules.specs.Clock.{lastTick}
-use Rattle.rules.specs.State.{Nobody, One, Last, Never, At, timeOf, listing, everyone, MayLead, ActiveTask}
+use Rattle.rules.specs.State.{Last, Never, At, timeOf, MayLead}
 use Rattle.table.specs.declared.Table.{Table}
 use Rattle.table.specs.Stored.{tableOf}
-use Rattle.lists.specs.Answers.{whoIn, Holds}
-use Rattle.lists.specs.Test.{listAt, none, seenAt, marked}
+use Rattle.lists.specs.Answers.{Holds}
+use Rattle.lists.specs.Test.{none, seenAt, marked}
 use Rattle.jobs.specs.declared.Job.{Job}
 use Rattle.jobs.specs.declared.Tasks.{Tasks}
 use Rattle.jobs.specs.Kept.{jobAt, releasedIn, activeIn, levelsAt, Dated}
 use Rattle.ready.specs.declared.Ready.{Ready}
-use Rattle.ready.specs.Keep.{readyIn}
-use Rattle.whole.specs.Whole.{viewIn}
 
 -- ---- the table and the jobs
 
@@ -48,19 +46,7 @@ pub record Tested (tasks : Tasks) (jobs : List Job) (ready : Ready) (clock : ℕ
   pub datable : Datable tasks jobs clock
   pub links : Holds (ready .lists)
 
--- ---- who runs and who waits
-
--- the conditions that speak of them, as they stand in `Whole`
-pub record QueueWhole (tasks : Tasks) (jobs : List Job) (ready : Ready) (clock : ℕ) : Type 0 where
-  pub runner : (k : ℕ) → whoIn (ready .running) ≡ One k → ActiveTask (viewIn tasks jobs ready clock 0) k
-  pub waiter : (l k : ℕ) → In k (listAt (ready .lists) l) → ActiveTask (viewIn tasks jobs ready clock 0) k
-  pub once : (k : ℕ) → count (eqb k) (everyone (readyIn ready)) ≡ digit (activeIn (tasks .table) jobs k)
-  pub place : (l k : ℕ) → In k (listAt (ready .lists) l) → levelsAt tasks jobs clock k ≡ l
-  pub order : (l : ℕ) → Sorted (MayLead (tableOf (tasks .table)) (releasedIn (tasks .table) jobs)) (listAt (ready .lists) l)
-  pub first : (k j : ℕ) → whoIn (ready .running) ≡ One k → In j (listing (listAt (ready .lists))) → MayLead (tableOf (tasks .table)) (releasedIn (tasks .table) jobs) k j
-  pub nobody : whoIn (ready .running) ≡ Nobody → listing (listAt (ready .lists)) ≡ []
-
--- ---- a listing's bytes
+-- ---- who runs and who waits, by the bytes of their listing
 
 abbrev pub byteLevel : List ℕ → ℕ → ℕ
 byteLevel bytes i = getD bytes (2 * i) 0

@@ -6,7 +6,7 @@
 //     holds_lists     (crate lists) the links and the map store lists
 //     queue_whole     those who run and wait: tasks of the table, each once, all active ones, in the lists of their levels, in order
 //
-// The last part reads the listing, as a pair of bytes for each waiting job.
+// The last part reads the listing, as a pair of bytes for each waiting job, and so decides whether the block is whole.
 ghost use mathlib.Core.Path.{_≡_};
 ghost use Prim.Native.Nat.{_≤_};
 ghost use Rattle.laws.specs.Words.{Decides};

@@ -8,7 +8,8 @@ ghost use Rattle.rules.specs.State.{MayLead};
 ghost use Rattle.table.specs.Stored.{tableOf};
 ghost use Rattle.lists.specs.Test.{none, marked};
 ghost use Rattle.jobs.specs.Kept.{releasedIn, Dated};
-ghost use Rattle.whole.specs.Parts.{Datable, Tested, QueueWhole, Few, tasksIn, WaitsRight, AllWait, inRow, RowDated, InOrder, ActiveAs, RunsWhole};
+ghost use Rattle.whole.specs.Whole.{Whole};
+ghost use Rattle.whole.specs.Parts.{Datable, Tested, Few, tasksIn, WaitsRight, AllWait, inRow, RowDated, InOrder, ActiveAs, RunsWhole};
 use jobs::Job;
 use jobs::PLACES;
 use jobs::Tasks;
@@ -26,10 +27,11 @@ use table::TaskNo;
 // Room for the listing of all tasks.
 const BYTES: usize = 2 * MOST;
 
-// Whether exactly the active jobs run or wait, each once, where and in the order that they should.
+// Whether the block is whole, where the rest has been tested: exactly the active jobs run or wait, each once, where and in the order that
+// they should.
 pub fn queue_whole(tasks: Tasks, jobs: [Job; PLACES], ready: Ready, clock: u64) -> bool
     requires { ⌜ Tested tasks jobs ready clock ⌝ }
-    ensures { λ r. ⌜ Decides r (QueueWhole tasks jobs ready clock) ⌝ }
+    ensures { λ r. ⌜ Decides r (Whole tasks jobs ready clock) ⌝ }
 {
     let running = ready.running;
     let lists = ready.lists;

@@ -3,11 +3,11 @@ use native.Mathlib.Omega.{arith}
 use borrow.Author.Needs.{needs}
 use lib.ListN.{length}
 use Rattle.laws.proofs.Arrays.{long-map}
-use Rattle.laws.proofs.Bools.{decides-same, told-true, told-false}
+use Rattle.laws.proofs.Bools.{told-true, told-false}
 use Rattle.rules.specs.Table.{most}
 use Rattle.table.proofs.Tests.{few-passed}
 use Rattle.whole.specs.Parts.{TasksWhole, Tested}
-use Rattle.whole.proofs.Wholeness.{parts-whole, whole-tasks, whole-jobs, whole-queue}
+use Rattle.whole.proofs.Wholeness.{whole-tasks, whole-jobs}
 use Rattle.whole.proofs.is_whole.Statement.{statement}
 use Rattle.whole.proofs.is_whole.Tie as tie
 
@@ -54,7 +54,7 @@ queue-whole-requires : tie.Need-queue-whole-requires
 queue-whole-requires c κs = tested c
 
 returns-5 : tie.Need-returns-5
-returns-5 c = decides-same _ _ (c .queue-whole .result) (parts-whole (tested (c .before))) whole-queue (c .queue-whole .ensures)
+returns-5 c = c .queue-whole .ensures
 
 pub is-whole-spec : {M : Type 1} → statement M
 is-whole-spec =

@@ -13,7 +13,7 @@ use Rattle.lists.specs.Test.{listAt}
 use Rattle.lists.proofs.Walks.{lists-held}
 use Rattle.whole.proofs.Rows.{none-listed, listed-none}
 use Rattle.whole.proofs.Reading.{Read, listing-room, listing-read}
-use Rattle.whole.proofs.Queueing.{runs-queue, queue-runs, none-queue, queue-none}
+use Rattle.whole.proofs.Queueing.{runs-whole, whole-runs, none-whole, whole-none}
 use Rattle.whole.proofs.queue.queue_whole.Statement.{statement}
 use Rattle.whole.proofs.queue.queue_whole.Tie as tie
 
@@ -38,7 +38,7 @@ enum-told c = search needs
 returns : tie.Need-returns
 returns c = λ q.
     let a = c .before .before .before .before .before .before .before in
-    let none = queue-none (a .pre) (ap whoIn (c .before .enum-told .given .1)) (long a) q .1 in
+    let none = whole-none (a .pre) (ap whoIn (c .before .enum-told .given .1)) (long a) q .1 in
     omega (arith, listed-none _ (listed (c .before .before .before .before)) none)
 
 active-as-requires : tie.Need-active-as-requires
@@ -55,14 +55,14 @@ returns-2 c =
     let a = c .before .before .before .before .before .before .before .before in
     let run = ap whoIn (c .before .before .enum-told .given .1) in
     let none = none-listed _ (listed (c .before .before .before .before .before)) (omega arith) in
-    decides-same _ _ (c .active-as .result) (none-queue (a .pre) run none (long a)) (λ q. queue-none (a .pre) run (long a) q .0) (c .active-as .ensures)
+    decides-same _ _ (c .active-as .result) (none-whole (a .pre) run none (long a)) (λ q. whole-none (a .pre) run (long a) q .0) (c .active-as .ensures)
 
 returns-3 : tie.Need-returns-3
 returns-3 c =
     let a = c .before .before .before .before .before .before .before .before in
     let run = ap whoIn (c .before .before .running .given .1) in
     let r = read (c .before .before .before .before .before) in
-    decides-same _ _ (c .runs-whole .result) (runs-queue (a .pre) run r (long a)) (queue-runs (a .pre) run r (long a)) (c .runs-whole .ensures)
+    decides-same _ _ (c .runs-whole .result) (runs-whole (a .pre) run r (long a)) (whole-runs (a .pre) run r (long a)) (c .runs-whole .ensures)
 
 pub queue-whole-spec : {M : Type 1} → statement M
 queue-whole-spec =
