@@ -9,6 +9,7 @@ A mark of the map is a text in `..` of one of these forms. The crate may stand i
   proofs/Cases#Elapsed 4294967290     a text that stands in the file
   clock/src/lib.advance               a function, a struct, an enum or a constant of a file of code
   must-fail/zero_moves                a must-fail edit
+  tests/clock-end                     a case of tests/cases.txt
 Each mark must exist. And the map must be complete: every definition of a crate's specs/ (laws, the words, apart), every public function
 and every must-fail edit stands in it. A function that returns something and says nothing of it (`ensures`) is wrong too.
 """
@@ -18,12 +19,13 @@ import sys
 
 ROOT = pathlib.Path(__file__).resolve().parent.parent
 MAP = ROOT / "docs" / "DEMANDS.md"
-MARK = re.compile(r"`(?:([a-z0-9_]+)/)?(specs|proofs|src|must-fail)/([^`]+)`")
+CASES = ROOT / "tests" / "cases.txt"
+MARK = re.compile(r"`(?:([a-z0-9_]+)/)?(specs|proofs|src|must-fail|tests)/([^`]+)`")
 NAME = r"([^\s:(){}.;,]+)"
 DECLARES = re.compile(r"^\s*(?:(?:unfoldable|abbrev|pub|data|record) )*" + NAME + r"(?= |$)")
 DEFINES = re.compile(r"^ *(?:unfoldable |abbrev )?pub (?:record |data )?" + NAME + " ")
-ITEM = re.compile(r"^ *(?:pub )?(?:fn|struct|enum|const) (\w+)", re.M)
-FUNCTION = re.compile(r"^ *(?:pub )?fn (\w+)\((?:[^{]|\n)*?-> [^{\n]+?(?: \{$|\n((?:.*\n)*?) *\{$)", re.M)
+ITEM = re.compile(r'^ *(?:pub )?(?:extern "C" )?(?:fn|struct|enum|const) (\w+)', re.M)
+FUNCTION = re.compile(r'^ *(?:pub )?(?:extern "C" )?fn (\w+)\((?:[^{]|\n)*?-> [^{\n]+?(?: \{$|\n((?:.*\n)*?) *\{$)', re.M)
 
 
 def lines(path):
@@ -52,6 +54,8 @@ def defined(path):
 
 def fault(crate, part, rest):
     """What is wrong with a mark, or nothing."""
+    if part == "tests":
+        return "" if re.search(rf"^case {re.escape(rest)}(-{{n}},|:)", CASES.read_text(), re.M) else "no such case"
     folder = ROOT / "crates" / (crate or "rules") / part
     if part == "must-fail":
         return "" if (folder / f"{rest}.edit").is_file() else "no such must-fail edit"
@@ -76,7 +80,7 @@ def missing(marks):
         crate = path.parent.parent.name
         wanted += [f"{crate}/specs/{path.stem}.{name}" for name in defined(path) if crate != "laws"]
     for path in sorted(ROOT.glob("crates/*/src/*.rt")):
-        names = re.findall(r"^ *pub fn (\w+)", path.read_text(), re.M)
+        names = re.findall(r'^ *pub (?:extern "C" )?fn (\w+)', path.read_text(), re.M)
         wanted += [f"{path.parent.parent.name}/src/{path.stem}.{name}" for name in names]
     return [mark for mark in wanted if mark not in here]
 

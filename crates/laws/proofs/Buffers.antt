@@ -1,12 +1,12 @@
 -- What is put into a lent buffer. Assumes nothing.
-use mathlib.Core.Path.{_≡_, refl, sym, ap, _∙_}
+use mathlib.Core.Path.{_≡_, refl, sym, ap, subst, _∙_}
 use mathlib.Core.List.{List, [], _∷_, _++_, append-assoc}
 use Prim.Native.Nat.{ℕ, suc, _+_, _-_, _≤_}
 use native.Mathlib.Omega.{arith}
 use native.Mathlib.Nat.{add-zero}
 use lib.ListN.{length, getD, take, drop, set, length-append, length-drop}
 use lib.Seq.{getD-append-add, getD-drop, drop-drop, sets, sets-eq, length-sets}
-use Rattle.laws.specs.Words.{written}
+use Rattle.laws.specs.Words.{written, Puts}
 
 module _ {X : Type 0} (xs buffer : List X) where
   pub written-size : length xs ≤ length buffer → length (written xs buffer) ≡ length buffer
@@ -63,3 +63,32 @@ module _ {X : Type 0} where
 
     pub filling-end : left ≡ [] → i ≤ length before → buffer ≡ take place before ++ written all (drop place before)
     filling-end e h = ap (sets buffer i) (sym e) ∙ now .same ∙ sets-written before place all (omega (arith, filling-size e))
+
+-- ---- put piece after piece
+
+module _ {X : Type 0} where
+  pub puts-none : (buffer : List X) (place : ℕ) → Puts buffer place [] place buffer
+  puts-none buffer place = record { size = sym (add-zero place); buffer = refl }
+
+  -- one piece behind another is the two joined
+  pub puts-then : {a b c : List X} {i j k : ℕ} {xs ys : List X} → Puts a i xs j b → Puts b j ys k c → Puts a i (xs ++ ys) k c
+  puts-then {a} {b} {c} {i} {j} {k} {xs} {ys} p q =
+      record {
+        size = omega (arith, p .size, q .size, length-append xs ys);
+        buffer = q .buffer ∙ rw (p .buffer, p .size) (sym (sets-append a i xs ys));
+      }
+
+  pub puts-length : {a b : List X} {i j : ℕ} {xs : List X} → Puts a i xs j b → length b ≡ length a
+  puts-length {a} {b} {i} {j} {xs} p = ap length (p .buffer) ∙ length-sets a i xs
+
+  -- what is put determines the buffer and the place behind
+  pub puts-one : {a b c : List X} {i j k : ℕ} {xs : List X} → Puts a i xs j b → Puts a i xs k c → (c ≡ b) × (k ≡ j)
+  puts-one p q = (q .buffer ∙ sym (p .buffer), q .size ∙ sym (p .size))
+
+  -- the same piece, said in another way
+  pub puts-as : {a b : List X} {i j : ℕ} {xs ys : List X} → xs ≡ ys → Puts a i xs j b → Puts a i ys j b
+  puts-as {a} {b} {i} {j} e p = subst (λ zs. Puts a i zs j b) e p
+
+  -- from the front it is `written`
+  pub puts-written : {a b : List X} {j : ℕ} {xs : List X} → length xs ≤ length a → Puts a 0 xs j b → b ≡ written xs a
+  puts-written {a} {b} {j} {xs} h p = p .buffer ∙ sets-written a 0 xs (omega arith)

@@ -8,6 +8,7 @@ use Rattle.rules.specs.State.{Running, Nobody, One}
 use Rattle.rules.specs.Calls.{toEnd, frontOf}
 use Rattle.rules.specs.Listing.{pairsOf, bytesOf}
 use Rattle.lists.specs.declared.Lists.{Lists}
+use Rattle.lists.specs.declared.Stored.{Stored}
 use Rattle.lists.specs.declared.Popped.{Popped}
 use Rattle.lists.specs.declared.Who.{Who}
 use Rattle.lists.specs.declared.Who.the-variants as Who
@@ -16,6 +17,13 @@ use Rattle.lists.specs.declared.Found.the-variants as Found
 use Rattle.lists.specs.Links.{Numbered, Absent, Stores}
 
 -- ---- answers
+
+-- the arrays and the map
+abbrev pub storedOf : Lists → Stored
+storedOf s = record { first = s .first; last = s .last; next = s .next; map = s .map }
+
+abbrev pub listsOf : Stored → Lists
+listsOf s = record { first = s .first; last = s .last; next = s .next; map = s .map }
 
 -- "nobody, or one task", as the rules say it
 abbrev pub whoIn : Who → Running

@@ -26,7 +26,7 @@ ghost use Rattle.laws.specs.Bits.{BitMade};
 ghost use Rattle.rules.specs.Table.{most};
 ghost use Rattle.rules.specs.Calls.{toFront, toEnd, frontOf, lowest};
 ghost use Rattle.lists.specs.Links.{Stores, Numbered};
-ghost use Rattle.lists.specs.Answers.{whoIn, foundAt, PopsFrom, frontMoved, Holds, HoldsAt, MayEnter};
+ghost use Rattle.lists.specs.Answers.{storedOf, listsOf, whoIn, foundAt, PopsFrom, frontMoved, Holds, HoldsAt, MayEnter};
 use table::Level;
 use table::MOST;
 use table::TaskNo;
@@ -35,13 +35,21 @@ mod walk; // length_of, waiting, list_into, list_all
 mod test; // holds_lists
 
 // A place for each task and each level, and place 0.
-const PLACES: usize = MOST + 1;
+pub const PLACES: usize = MOST + 1;
 
 pub struct Lists {
     first: [TaskNo; PLACES],
     last: [TaskNo; PLACES],
     next: [TaskNo; PLACES],
     map: u32,
+}
+
+// The arrays and the map, for those who keep a block elsewhere and bring it back; what they hold need not be lists.
+pub struct Stored {
+    pub first: [TaskNo; PLACES],
+    pub last: [TaskNo; PLACES],
+    pub next: [TaskNo; PLACES],
+    pub map: u32,
 }
 
 // "nobody, or one task"
@@ -78,6 +86,36 @@ fn without_bit(map: u32, level: Level) -> u32
 }
 
 impl Lists {
+    // As they are stored.
+    pub fn stored(self) -> Stored
+        ensures { λ r. ⌜ r ≡ storedOf self ⌝ }
+    {
+        let first = self.first;
+        let last = self.last;
+        let next = self.next;
+        Stored {
+            first,
+            last,
+            next,
+            map: self.map,
+        }
+    }
+
+    // Whatever was stored: `holds_lists` tells whether it is lists.
+    pub fn of(stored: Stored) -> Lists
+        ensures { λ r. ⌜ r ≡ listsOf stored ⌝ }
+    {
+        let first = stored.first;
+        let last = stored.last;
+        let next = stored.next;
+        Lists {
+            first,
+            last,
+            next,
+            map: stored.map,
+        }
+    }
+
     // All lists empty.
     pub fn empty() -> Lists
         ensures { λ r. ⌜ Stores r (λ l. []) ⌝ }

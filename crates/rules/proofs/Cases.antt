@@ -1,25 +1,29 @@
 -- "Both sides of each line": the cases marked †, with those that pin the other numbers, as one statement over one table. Assumes nothing.
-use mathlib.Core.Path.{_≡_, refl}
+use mathlib.Core.Path.{_≡_, refl, ap, _∙_}
 use mathlib.Core.Bool.{true}
-use mathlib.Core.List.{List, [], _∷_}
-use Prim.Native.Nat.{ℕ, _+_, _-_, _^_}
+use mathlib.Core.List.{List, [], _∷_, _++_}
+use Prim.Native.Nat.{ℕ, _+_, _-_, _^_, _<_}
 use native.Mathlib.Omega.{arith}
 use lib.IntN.{ℤ, pos, negsuc}
-use lib.ListN.{length, replicate}
+use lib.ListN.{length, take, drop, replicate}
 use Rattle.laws.specs.Words.{All, behind, put, count, sum, those, joined}
-use Rattle.rules.specs.Numbers.{TableSize, OutOfRange, OutOfOrder, Overload, ClockFull, NoSuchTask, BufferTooShort, Verdict, Passed, Failed, firstOf}
+use Rattle.rules.specs.Numbers.{TableSize, OutOfRange, OutOfOrder, Overload, ClockFull, NoSuchTask, BufferTooShort, InputTooLong, longest, Verdict, Passed, Failed, firstOf}
 use Rattle.rules.specs.Table.{Task, most, tasksTests, verdictOf}
 use Rattle.rules.specs.Levels.{remainingOf, levelOf, firstLevel, largestBelow, pointsBelow, planOf}
 use Rattle.rules.specs.Clock.{lastTick, elapsedOf, wentBack, timeAfter, tooFar}
 use Rattle.rules.specs.State.{One, listing}
 use Rattle.rules.specs.Calls.{Start, Call, Release, Done, Clock, None, Ticks, Answer, Accepted, Planned, plannedOf, startOf, startedOf, clockTests, testsOf, lowest, movesOf, stepOf}
 use Rattle.rules.specs.Listing.{pairsOf, bytesOf, Listed, listedOf}
-use Rattle.rules.specs.Lines.{PlanLine, EventLine, planLines, lineOf}
-use Rattle.rules.specs.Histories.{Job, before, runOf}
+use Rattle.rules.specs.Lines.{PlanLine, EventLine, planLines, lineOf, eventLines}
+use Rattle.rules.specs.Histories.{Job, before, runOf, eventsOf}
+use Rattle.rules.specs.Records.{recordAt, foundBy, itemsIn, itemsOf, recordTests, tasksIn, callsIn}
+use Rattle.rules.specs.Text.{digits, pointsText, refusalText, planText, eventText, sumText, plansText, eventsText}
+use Rattle.rules.specs.Runner.{reportOf, outputBy, outputOf}
 use Rattle.rules.specs.Promotion.{drained, promoted}
+use Rattle.rules.proofs.Verdicts.{asks-less, asks-holds}
 use Rattle.rules.proofs.Levels.{level-none}
 use Rattle.rules.proofs.Plans.{plan-alone}
-use Rattle.rules.proofs.Example.{task, planLine, point, line, example}
+use Rattle.rules.proofs.Example.{task, planLine, point, line, example, exampleBytes}
 
 -- what a case says
 pub data Case : Type 0 where
@@ -52,6 +56,9 @@ pub data Case : Type 0 where
   Promotes : (new : ℕ → ℕ) (lists : ℕ → List ℕ) (bytes : List ℕ) → Case
   -- the first of two jobs comes before the other
   Precedes : (a b : Job) → Case
+  -- what the runner prints for this input, and for any that is too long
+  Prints : (input output : List ℕ) → Case
+  PrintsTooLong : (output : List ℕ) → Case
 
 abbrev pub Holds : Case → Type 0
 Holds (PlansOf table lines) = planLines table (length table) 1 ≡ lines
@@ -69,6 +76,8 @@ Holds (ListingOf table calls buffer listed) = listedOf (runOf (startOf table 0) 
 Holds (Waits table calls bytes) = bytesOf (runOf (startOf table 0) calls .ready .lists) ≡ bytes
 Holds (Promotes new lists bytes) = bytesOf (promoted new (most - 1) 2 lists) ≡ bytes
 Holds (Precedes a b) = before a b ≡ true
+Holds (Prints input output) = outputOf input ≡ output
+Holds (PrintsTooLong output) = (input : List ℕ) → longest < length input → outputOf input ≡ output
 
 abbrev four : List Task
 four = task 1 5 9 ∷ task 1 5 9 ∷ task 1 5 9 ∷ task 1 9 9 ∷ []
@@ -85,6 +94,21 @@ late = task 1 2 9 ∷ task 1 9 9 ∷ task 1 9 9 ∷ task 1 9 9 ∷ []
 -- task 1 runs, task 2 waits at level 1 and task 4 at level 4
 abbrev twoWait : List Call
 twoWait = Release 0 4 ∷ Release 0 1 ∷ Release 0 2 ∷ []
+
+-- the first task of the example, and its tasks with the first event
+abbrev firstTask : List ℕ
+firstTask = take 14 exampleBytes
+
+abbrev firstEvent : List ℕ
+firstEvent = take 49 exampleBytes
+
+-- `X 12`, `X 13`, `X 14` and the digits of an offset
+abbrev refused : (number : ℕ) (offset : List ℕ) → List ℕ
+refused number offset = 88 ∷ 32 ∷ 49 ∷ number ∷ 32 ∷ offset ++ 10 ∷ []
+
+-- above 65,536 bytes, whatever they are: 14, with 65536
+abbrev tooLong : List ℕ
+tooLong = refused 52 (54 ∷ 53 ∷ 53 ∷ 51 ∷ 54 ∷ [])
 
 abbrev pub cases : List Case
 cases =
@@ -155,14 +179,46 @@ cases =
     ∷ PlanAsked example 4 (record { verdict = Failed NoSuchTask; points = [] })
     -- of equal deadlines, the earlier release call
     ∷ Precedes (record { task = 2; deadline = 10; call = 1 }) (record { task = 1; deadline = 10; call = 2 })
+    -- one byte too few in a task record: 12, with its offset; all of them: the table starts
+    ∷ Prints (take 13 exampleBytes) (refused 50 (48 ∷ []))
+    ∷ Prints firstTask (80 ∷ 32 ∷ 49 ∷ 32 ∷ 49 ∷ 10 ∷ 83 ∷ 32 ∷ 48 ∷ 32 ∷ 48 ∷ 10 ∷ [])
+    -- one byte too few in an event; an unknown mark; a mark cut off
+    ∷ Prints (take 48 exampleBytes) (refused 50 (52 ∷ 50 ∷ []))
+    ∷ Prints (firstTask ++ 84 ∷ 76 ∷ []) (refused 50 (49 ∷ 52 ∷ []))
+    ∷ Prints (firstTask ++ 84 ∷ []) (refused 50 (49 ∷ 52 ∷ []))
+    -- a task record behind an event: 13; cut off, it is 12; before a record with an unknown mark, 13
+    ∷ Prints (firstEvent ++ firstTask) (refused 51 (52 ∷ 57 ∷ []))
+    ∷ Prints (firstEvent ++ take 13 exampleBytes) (refused 50 (52 ∷ 57 ∷ []))
+    ∷ Prints (firstEvent ++ firstTask ++ 0 ∷ []) (refused 51 (52 ∷ 57 ∷ []))
+    -- a stream that can be read, with no task: 1
+    ∷ Prints (drop 42 exampleBytes) (88 ∷ 32 ∷ 49 ∷ 32 ∷ 48 ∷ 10 ∷ [])
+    -- a done one tick after the deadline: `-1`
+    ∷ Prints (firstTask ++ take 7 (drop 42 exampleBytes) ++ 68 ∷ 78 ∷ 3 ∷ 0 ∷ 0 ∷ 0 ∷ 1 ∷ [])
+    (80 ∷ 32 ∷ 49 ∷ 32 ∷ 49 ∷ 10
+    ∷ 69 ∷ 32 ∷ 49 ∷ 32 ∷ 48 ∷ 32 ∷ 49 ∷ 32 ∷ 48 ∷ 32 ∷ 48 ∷ 32 ∷ 45 ∷ 10
+    ∷ 69 ∷ 32 ∷ 50 ∷ 32 ∷ 48 ∷ 32 ∷ 48 ∷ 32 ∷ 48 ∷ 32 ∷ 48 ∷ 32 ∷ 45 ∷ 49 ∷ 10
+    ∷ 83 ∷ 32 ∷ 48 ∷ 32 ∷ 48 ∷ 10
+    ∷ [])
+    -- "input above 65,536 bytes"
+    ∷ PrintsTooLong tooLong
     ∷ []
+
+too-long-text : refusalText InputTooLong ≡ tooLong
+unfolding refusalText digits
+too-long-text = refl
+
+too-long : (input : List ℕ) → longest < length input → outputOf input ≡ tooLong
+unfolding outputOf
+too-long input h =
+    ap (outputBy (tasksIn (itemsOf input)) (callsIn (itemsOf input))) (asks-holds (asks-less InputTooLong longest (length input)) _ h) ∙ too-long-text
 
 pub cases-hold : All Holds cases
 unfolding startedOf plannedOf planLines firstLevel planOf pointsBelow largestBelow verdictOf tasksTests runOf stepOf testsOf firstOf timeAfter elapsedOf wentBack tooFar movesOf lowest listing listedOf bytesOf pairsOf promoted drained joined those count sum levelOf remainingOf
+    outputOf reportOf itemsIn recordAt foundBy recordTests tasksIn callsIn eventLines eventsOf plansText eventsText planText eventText pointsText sumText refusalText digits
 cases-hold =
     (refl, (refl, (refl, (λ table. level-none table 0 0 (omega arith), (λ table. level-none table 0 3 (omega arith), (plan-alone, computed))))))
   where
-    -- the rest computes
+    -- the rest computes, but for the last, which is of every input that is too long
     computed : All Holds (behind (behind (behind (behind (behind (behind cases))))))
     computed =
-        (refl, (refl, (refl, (refl, (refl, (refl, (refl, (refl, (refl, (refl, (refl, (refl, (refl, (refl, (refl, (refl, (refl, (refl, (refl, (refl, (refl, (refl, (refl, (refl, (refl, (refl, (refl, (refl, (refl, (refl, (refl, (refl, (refl, (refl, (refl, (refl, (refl, (refl, (refl, (refl, tt))))))))))))))))))))))))))))))))))))))))
+        (refl, (refl, (refl, (refl, (refl, (refl, (refl, (refl, (refl, (refl, (refl, (refl, (refl, (refl, (refl, (refl, (refl, (refl, (refl, (refl, (refl, (refl, (refl, (refl, (refl, (refl, (refl, (refl, (refl, (refl, (refl, (refl, (refl, (refl, (refl, (refl, (refl, (refl, (refl, (refl, (refl, (refl, (refl, (refl, (refl, (refl, (refl, (refl, (refl, (refl, (too-long, tt)))))))))))))))))))))))))))))))))))))))))))))))))))

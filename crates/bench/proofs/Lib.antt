@@ -1,0 +1,2 @@
+-- Laws of many calls on one block.
+pub mod Adding

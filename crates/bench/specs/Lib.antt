@@ -1,0 +1,2 @@
+-- What the contracts of `bench` cite beside the rules.
+pub mod Sums

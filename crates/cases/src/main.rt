@@ -1,0 +1,38 @@
+// Runs each case of data/ in the order of the arguments, and writes its name and the runner's lines. What is expected comes from a model of
+// its own (tools/cases.py); it is compared with the file stdout.
+fn main() {
+    let count = os::arg_count();
+    let mut i: usize = 1;
+    while i < count {
+        named(i);
+        i += 1;
+    }
+}
+
+// The case that argument i names.
+fn named(i: usize) {
+    let mut name = io::buffer();
+    let length = os::arg(i, &mut name);
+    if os::errno() != 0 {
+        os::fail(b"argument");
+        return;
+    }
+    io::write_all(1, b"== ");
+    io::write_all(1, &name[..length]);
+    io::write_all(1, b"\n");
+    let file = os::open_read(&name[..length]);
+    if file < 0 {
+        os::fail(&name[..length]);
+        return;
+    }
+    case(file);
+    libc::close(file);
+}
+
+fn case(file: i32) {
+    let mut stream = run::input_room();
+    let length = io::read_full(file, &mut stream);
+    let mut out = run::output_room();
+    let size = run::run(&stream[..length], &mut out);
+    io::write_all(1, &out[..size]);
+}

@@ -1,2 +1,0 @@
--- Laws of the program's numbers.
-pub mod Signs

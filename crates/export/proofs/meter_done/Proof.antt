@@ -1,0 +1,28 @@
+use borrow.Author.Needs.{needs}
+use Rattle.export.proofs.Doors.{tells-none, tells}
+use Rattle.export.proofs.meter_done.Statement.{statement}
+use Rattle.export.proofs.meter_done.Tie as tie
+
+returns : tie.Need-returns
+returns c = let s = c .before .before in tells-none _ (s .args .block .now) (s .args .answer .now) (c .if1 .taken)
+
+load-requires : tie.Need-load-requires
+load-requires c κs = search needs
+
+done-requires : tie.Need-done-requires
+done-requires c κs = search needs
+
+stored-requires : tie.Need-stored-requires
+stored-requires c κs = search needs
+
+same-length : tie.Need-same-length
+same-length c = search needs
+
+returns-2 : tie.Need-returns-2
+returns-2 c =
+    let called = c .before .before .before .before .before in let test = called .before .before .before in let s = test .before .before in
+    tells _ (s .args .block .now) (s .args .answer .now) (test .if1 .left) (called .before .load .ensures) _ (called .done .ensures) _ _ _ (c .before .before .stored .ensures)
+
+pub meter-done-spec : {M : Type 1} → statement M
+meter-done-spec =
+    tie.close (tie.spec returns load-requires done-requires stored-requires same-length returns-2)

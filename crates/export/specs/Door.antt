@@ -1,0 +1,95 @@
+-- What the doors for other languages give back, over the bytes of a block.
+use Prim.Native.Nat.{ℕ, suc, _+_, _*_}
+use mathlib.Core.Path.{_≡_}
+use mathlib.Core.Bool.{Bool, true, false}
+use mathlib.Core.List.{List, [], _∷_}
+use lib.Dec.{eqb}
+use lib.IntN.{pos, negsuc}
+use lib.ListN.{length}
+use Rattle.laws.specs.Words.{Decides, digit, written}
+use Rattle.rules.specs.Numbers.{NotWhole, numberOf, valueOf, given, Verdict, Passed, Failed, firstOf}
+use Rattle.rules.specs.Calls.{Call, Margin, None, Ticks, Answer, Accepted, Refused}
+use Rattle.rules.specs.Lines.{taskIn}
+use Rattle.rules.specs.Records.{itemsOf, tasksIn, runnerTests}
+use Rattle.kernel.specs.declared.Called.{Called}
+use Rattle.kernel.specs.declared.start.Started.{Started}
+use Rattle.kernel.specs.declared.asks.Listed.{Listed}
+use Rattle.kernel.specs.Block.{Whole}
+use Rattle.kernel.specs.Answers.{answerIn}
+use Rattle.kernel.specs.Calls as Calls
+use Rattle.kernel.specs.Start as Start
+use Rattle.kernel.specs.Asks as Asks
+use Rattle.records.specs.Load.{tableIn}
+use Rattle.image.specs.Bytes.{size, bytesOf, blockIn}
+
+-- so many bytes as a block has
+abbrev pub isBlock : List ℕ → Bool
+isBlock bytes = eqb (length bytes) size
+
+-- what is asked of bytes that a block is stored into
+abbrev pub Stores : List ℕ → Type 0
+Stores bytes = length bytes ≡ size
+
+-- ---- a call
+
+-- a margin in two numbers: which kind it is, and how many ticks
+abbrev pub kindOf : Margin → ℕ
+kindOf None = 0
+kindOf (Ticks (pos n)) = 1
+kindOf (Ticks (negsuc n)) = 2
+
+abbrev pub ticksOf : Margin → ℕ
+ticksOf None = 0
+ticksOf (Ticks (pos n)) = n
+ticksOf (Ticks (negsuc n)) = suc n
+
+-- where a call was accepted its block and its answer are stored; a refusal "writes nothing"
+abbrev pub AnswersBy : Called → List ℕ → List ℕ → ℕ → List ℕ → List ℕ → Answer → Type 0
+AnswersBy called bytes answer r after answered (Accepted x m g) =
+    (r ≡ 0) × (after ≡ written (bytesOf (called .block)) bytes) × (answered ≡ taskIn x ∷ m ∷ kindOf g ∷ ticksOf g ∷ [])
+AnswersBy called bytes answer r after answered (Refused q) = (r ≡ numberOf q) × (after ≡ bytes) × (answered ≡ answer)
+
+abbrev pub Answers : Called → List ℕ → List ℕ → ℕ → List ℕ → List ℕ → Type 0
+Answers called bytes answer r after answered = AnswersBy called bytes answer r after answered (answerIn (called .answer))
+
+abbrev pub TellsBy : Call → List ℕ → List ℕ → ℕ → List ℕ → List ℕ → Bool → Type 0
+TellsBy c bytes answer r after answered true = (called : Called) × Calls.Gives (blockIn bytes) c called × Answers called bytes answer r after answered
+TellsBy c bytes answer r after answered false = (r ≡ numberOf NotWhole) × (after ≡ bytes) × (answered ≡ answer)
+
+-- the call on the block that the bytes say; 15 where they are too few or too many
+abbrev pub Tells : Call → List ℕ → List ℕ → ℕ → List ℕ → List ℕ → Type 0
+Tells c bytes answer r after answered = TellsBy c bytes answer r after answered (isBlock bytes)
+
+-- ---- start
+
+abbrev pub BegunBy : List ℕ → ℕ → List ℕ → ℕ → List ℕ → Verdict → Type 0
+BegunBy s reading bytes r after Passed =
+    (r ≡ 0) × (started : Started) × Start.Starts (tableIn (tasksIn (itemsOf s))) reading started × (after ≡ written (bytesOf (started .block)) bytes)
+BegunBy s reading bytes r after (Failed q) = (r ≡ numberOf q + 256 * given (valueOf q)) × (after ≡ bytes)
+
+abbrev pub BeginsBy : List ℕ → ℕ → List ℕ → ℕ → List ℕ → Bool → Type 0
+BeginsBy s reading bytes r after true = BegunBy s reading bytes r after (firstOf (runnerTests s))
+BeginsBy s reading bytes r after false = (r ≡ numberOf NotWhole) × (after ≡ bytes)
+
+-- the block that the stream's table starts, where stream and table pass the runner's tests
+abbrev pub Begins : List ℕ → ℕ → List ℕ → ℕ → List ℕ → Type 0
+Begins s reading bytes r after = BeginsBy s reading bytes r after (isBlock bytes)
+
+-- ---- the listing, and whether a block is whole
+
+-- the number waiting, or 256 times the number of the refusal
+abbrev pub numberBy : ℕ → Verdict → ℕ
+numberBy n Passed = n
+numberBy n (Failed q) = 256 * numberOf q
+
+abbrev pub ListsBy : List ℕ → List ℕ → ℕ → List ℕ → Bool → Type 0
+ListsBy bytes before r after true =
+    (l : Listed) × Asks.GivesListing (blockIn bytes) before l after × (r ≡ numberBy (Asks.listedIn l after .waiting) (Asks.listedIn l after .verdict))
+ListsBy bytes before r after false = (r ≡ 256 * numberOf NotWhole) × (after ≡ before)
+
+abbrev pub Lists : List ℕ → List ℕ → ℕ → List ℕ → Type 0
+Lists bytes before r after = ListsBy bytes before r after (isBlock bytes)
+
+-- 1 where the bytes are those of a whole block
+abbrev pub Judges : List ℕ → ℕ → Type 0
+Judges bytes r = (w : Bool) × Decides w ((length bytes ≡ size) × Whole (blockIn bytes)) × (r ≡ digit w)

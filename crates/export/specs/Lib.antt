@@ -1,0 +1,2 @@
+-- What the contracts of `export` cite beside the rules.
+pub mod Door

@@ -1,0 +1,2 @@
+-- What the contracts of `image` cite beside the rules.
+pub mod Bytes

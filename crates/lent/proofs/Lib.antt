@@ -1,0 +1,6 @@
+-- Laws of the calls by address.
+pub mod Through
+pub mod Parts
+pub mod Shapes
+pub mod Lending
+pub mod OwnBlock

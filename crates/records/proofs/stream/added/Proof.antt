@@ -1,0 +1,21 @@
+use mathlib.Core.Logic.{⊎-elim}
+use native.Mathlib.Omega.{arith}
+use borrow.Author.Needs.{needs}
+use Rattle.records.proofs.Loading.{added-kept, added-past}
+use Rattle.records.proofs.stream.added.Statement.{statement}
+use Rattle.records.proofs.stream.added.Tie as tie
+
+mul-tasks : tie.Need-mul-tasks
+mul-tasks c = search needs
+
+array-set-from-tasks : tie.Need-array-set-from-tasks
+array-set-from-tasks c = search needs
+
+add-t9 : tie.Need-add-t9
+add-t9 c = search needs
+
+returns : tie.Need-returns
+returns c = λ ts e. ⊎-elim (λ w. added-kept ts _ _ _ e (omega arith) (w .1)) (λ w. added-past ts _ _ _ e (omega arith) (w .1)) (c .if1 .came)
+
+pub added-spec : {M : Type 1} → statement M
+added-spec = tie.close (tie.spec mul-tasks array-set-from-tasks add-t9 returns)

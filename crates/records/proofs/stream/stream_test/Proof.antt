@@ -1,0 +1,18 @@
+use mathlib.Core.Path.{sym, _∙_}
+use native.Mathlib.Omega.{arith}
+use borrow.Author.Needs.{needs}
+use Rattle.records.proofs.Tests.{too-long, short-enough}
+use Rattle.records.proofs.stream.stream_test.Statement.{statement}
+use Rattle.records.proofs.stream.stream_test.Tie as tie
+
+returns : tie.Need-returns
+returns c = sym (too-long (c .before .before .args .stream .now) (omega arith))
+
+records-test-requires : tie.Need-records-test-requires
+records-test-requires c κs = search needs
+
+returns-2 : tie.Need-returns-2
+returns-2 c = c .records-test .ensures ∙ sym (short-enough (c .before .before .before .args .stream .now) (omega arith))
+
+pub stream-test-spec : {M : Type 1} → statement M
+stream-test-spec = tie.close (tie.spec returns records-test-requires returns-2)

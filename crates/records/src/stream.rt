@@ -1,0 +1,151 @@
+// A whole stream: its tests, and the table that its task records make.
+ghost use mathlib.Core.Path.{_≡_};
+ghost use mathlib.Core.List.{List, [], _∷_, _++_};
+ghost use mathlib.Core.Bool.{false};
+ghost use Prim.Native.Nat.{suc, _<_, _^_};
+ghost use Rattle.rules.specs.Numbers.{firstOf, numberIn, givenWith};
+ghost use Rattle.rules.specs.Table as Rules;
+ghost use Rattle.rules.specs.Records.{isTaskRecord, itemsOf, recordTests, streamOf, tasksIn};
+ghost use Rattle.table.specs.Stored.{taskOf};
+ghost use Rattle.records.specs.Read.{readAs, streamIn};
+ghost use Rattle.records.specs.Load.{tableIn};
+use super::Found;
+use super::Record;
+use super::read;
+use table::MOST;
+use table::Table;
+use table::Task;
+
+// "input above 65,536 bytes"
+pub const LONGEST: usize = 65536;
+
+// What the tests of a stream find: readable, or the first that fails, with the offset of the record.
+pub enum Stream {
+    Readable,
+    Unreadable(usize),
+    TaskBehindEvent(usize),
+    TooLong,
+}
+
+impl Stream {
+    // "No.", and 0 where the stream is readable.
+    pub fn number(self) -> u8
+        ensures { λ r. ⌜ r ≡ numberIn (streamIn self) ⌝ }
+    {
+        match self {
+            Stream::Readable => 0,
+            Stream::Unreadable(_) => 12,
+            Stream::TaskBehindEvent(_) => 13,
+            Stream::TooLong => 14,
+        }
+    }
+
+    // "offset of the record", "offset 65536".
+    pub fn offset(self) -> usize
+        ensures { λ r. ⌜ r ≡ givenWith (streamIn self) ⌝ }
+    {
+        match self {
+            Stream::Readable => 0,
+            Stream::Unreadable(offset) => offset,
+            Stream::TaskBehindEvent(offset) => offset,
+            Stream::TooLong => LONGEST,
+        }
+    }
+}
+
+// "tests 14, then all records from the front"
+pub fn stream_test(stream: &[u8]) -> Stream
+    ensures { λ r. ⌜ streamIn r ≡ streamOf (now (stream .entry)) ⌝ }
+{
+    if LONGEST < stream.len() {
+        return Stream::TooLong;
+    }
+    records_test(stream)
+}
+
+// Whether a record is a task's.
+fn is_task(read: Record) -> bool
+    ensures { λ r. ⌜ r ≡ isTaskRecord (readAs read 0) ⌝ }
+{
+    match read {
+        Record::Task(_) => true,
+        Record::Event(_) => false,
+    }
+}
+
+// "all records from the front (at each, 12 before 13)"
+fn records_test(stream: &[u8]) -> Stream
+    ensures { λ r. ⌜ streamIn r ≡ firstOf (recordTests false (itemsOf (now (stream .entry)))) ⌝ }
+{
+    let mut at: usize = 0;
+    let mut begun = false;
+    while at < stream.len() {
+        let found = read(stream, at);
+        match found {
+            Found::End => {
+                return Stream::Readable;
+            }
+            Found::Bad => {
+                return Stream::Unreadable(at);
+            }
+            Found::Read(record, size) => {
+                let task = is_task(record);
+                if begun && task {
+                    return Stream::TaskBehindEvent(at);
+                }
+                if !task {
+                    begun = true;
+                }
+                at += size;
+            }
+        }
+    }
+    Stream::Readable
+}
+
+// A table and one task more. Past the room for them tasks are counted, and not kept.
+fn added(table: Table, task: Task) -> Table
+    requires { ⌜ suc (table .count) < 2 ^ 64 ⌝ }
+    ensures { λ r. ⌜ ((ts : List Rules.Task) → table ≡ tableIn ts → r ≡ tableIn (ts ++ taskOf task ∷ [])) ⌝ }
+{
+    let mut tasks = table.tasks;
+    let count = table.count;
+    if count < MOST {
+        tasks[count] = task;
+    }
+    Table {
+        count: count + 1,
+        tasks,
+    }
+}
+
+// The table that the task records make, in their order.
+pub fn table_in(stream: &[u8]) -> Table
+    ensures { λ r. ⌜ r ≡ tableIn (tasksIn (itemsOf (now (stream .entry)))) ⌝ }
+{
+    let none = Task { c: 0, d: 0, t: 0 };
+    let mut table = Table {
+        count: 0,
+        tasks: [none; MOST],
+    };
+    let mut at: usize = 0;
+    while at < stream.len() {
+        let found = read(stream, at);
+        match found {
+            Found::Read(record, size) => {
+                if let Record::Task(task) = record {
+                    let more = added(table, task);
+                    table = more;
+                }
+                at += size;
+            }
+            Found::End => {
+                return table;
+            }
+            Found::Bad => {
+                return table;
+            }
+        }
+    }
+    table
+}

@@ -1,0 +1,6 @@
+-- What is proved of a run, beside its functions.
+pub mod Steps
+pub mod Laid
+pub mod Planning
+pub mod Along
+pub mod Output

@@ -1,0 +1,2 @@
+-- What the contracts of `run` cite beside the rules.
+pub mod Run

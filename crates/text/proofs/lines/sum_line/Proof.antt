@@ -1,0 +1,17 @@
+use borrow.Author.Needs.{needs}
+use Rattle.rules.specs.Text.{sumText}
+use Rattle.text.proofs.lines.sum_line.Statement.{statement}
+use Rattle.text.proofs.lines.sum_line.Tie as tie
+
+numbers-line-requires : tie.Need-numbers-line-requires
+numbers-line-requires c κs = search needs
+
+same-length : tie.Need-same-length
+same-length c = search needs
+
+returns : tie.Need-returns
+unfolding sumText
+returns c = c .before .before .numbers-line .ensures
+
+pub sum-line-spec : {M : Type 1} → statement M
+sum-line-spec = tie.close (tie.spec numbers-line-requires same-length returns)

@@ -1,0 +1,39 @@
+/* The kernel for programs in C: link target/staticlib/libexport.a, which `rt staticlib export` makes.
+ *
+ * A block is kept by the caller as METER_BYTES bytes; other lengths are no whole block, and get 15. No function asks anything of its
+ * arguments but that pointers lead to as many bytes as is said, and that what is written overlaps nothing else. A refusal writes nothing. */
+#ifndef METER_H
+#define METER_H
+
+#include <stddef.h>
+#include <stdint.h>
+
+enum { METER_BYTES = 967, METER_ROOM = 2097152 };
+
+/* What an accepted call answers. */
+enum {
+    METER_RUNNING,  /* the running task; 0 nobody */
+    METER_MOVES,    /* the moves of the call */
+    METER_MARGIN,   /* 0 no margin; 1 a margin of 0 or more; 2 the job was late */
+    METER_TICKS,    /* the margin's ticks, before or behind the deadline */
+    METER_NUMBERS
+};
+
+/* The runner's whole output for a stream; its length. 0, and nothing is written, where there are less than METER_ROOM bytes. */
+size_t meter_run(const uint8_t *stream, size_t length, uint8_t *out, size_t room);
+
+/* A block from the task records of a stream. 0; or the refusal's number, and 256 times the task or offset with it. */
+size_t meter_start(const uint8_t *stream, size_t length, uint32_t reading, uint8_t *block, size_t bytes);
+
+/* A call on the block: 0, or the refusal's number. */
+uint8_t meter_release(uint8_t *block, size_t bytes, uint32_t reading, uint8_t task, uint64_t answer[METER_NUMBERS]);
+uint8_t meter_done(uint8_t *block, size_t bytes, uint32_t reading, uint8_t task, uint64_t answer[METER_NUMBERS]);
+uint8_t meter_clock(uint8_t *block, size_t bytes, uint32_t reading, uint64_t answer[METER_NUMBERS]);
+
+/* The waiting jobs, a byte level and a byte task each. Their number; or 256 times the refusal's number. */
+size_t meter_listing(const uint8_t *block, size_t bytes, uint8_t *buffer, size_t length);
+
+/* 1 where the block is whole, else 0. */
+uint8_t meter_whole(const uint8_t *block, size_t bytes);
+
+#endif
