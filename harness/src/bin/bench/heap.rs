@@ -58,11 +58,14 @@ impl<'a> Heap<'a> {
     /// 5, then 6.
     fn time_of(&self, reading: u32) -> Result<u64, u8> {
         let elapsed = reading.wrapping_sub(self.reading);
+        if elapsed >= 1 << 31 {
+            return Err(5);
+        }
         let time = self.clock + elapsed as u64;
-        match () {
-            _ if elapsed >= 1 << 31 => Err(5),
-            _ if time > LAST_TICK => Err(6),
-            _ => Ok(time),
+        if time > LAST_TICK {
+            Err(6)
+        } else {
+            Ok(time)
         }
     }
 

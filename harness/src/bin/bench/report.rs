@@ -67,9 +67,18 @@ fn promoting(streams: &[Stream]) -> String {
     let times: Vec<&Times> =
         streams.iter().filter(|stream| stream.name == "real").flat_map(|stream| stream.times.iter().flatten()).collect();
     let (moving, still): (Vec<&Times>, Vec<&Times>) = times.into_iter().partition(|time| time.moves > 0);
-    let share = 100.0 * moving.len() as f64 / (moving.len() + still.len()) as f64;
     let [moved, stayed] = [median_of(&moving, |t| t.inner), median_of(&still, |t| t.inner)];
-    format!("A call that promotes, {share:.0} % of those timed in `real`, takes {moved:.0} ns in its inner form, any other {stayed:.0} ns; the heap never promotes.")
+    let (some, others) = (moving.len(), still.len());
+    format!("In `real` {some} of the calls timed promote: {moved:.0} ns in the inner form, against {stayed:.0} ns of the {others} others. The heap never promotes.")
+}
+
+/// The load of the machine, where it says it.
+fn load() -> String {
+    let told = std::fs::read_to_string("/proc/loadavg").unwrap_or_default();
+    told.split(' ')
+        .next()
+        .filter(|number| !number.is_empty())
+        .map_or(String::new(), |number| format!(" with a load of {number} at the end"))
 }
 
 /// The least and the most that twice as many calls take, of medians over events. Where it is not about twice as long, the compiler has left
@@ -102,12 +111,13 @@ A call is timed at up to {EACH} events of its kind in a stream, each time on the
 the quickest of {TRIES} tries; a row has the median over its events. `public` is the call as users make it, over `crates/bench`; `inner` is its inner
 form, without the whole-test. `heap` is Rust's own binary heap over the same jobs, with the same tests 5 to 10, spacing and margin, in the same
 state: clone and call less clone alone. Heap, public call, inner form and the harness's model named the same running job after each of
-{events} events. Twice as many calls take {growth:.2} to {growth_most:.2} times as long: none is left out, nor the block that it gives back, which is kept.
+{events} events. Twice as many calls take {growth:.2} to {growth_most:.2} times as long, so none is left out. The block that a call gives
+back is kept, and tested when all are made, so that it has to be written.
 
 - `real`: load 0.9, T log-uniform from 1e3 to 1e5, D 0.6 to 1 of T, sporadic releases, each job done after 0.3 to 1 of C, a clock call now and then.
 - `burst`: all tasks are released within as many ticks, then all are done; and again, when their spacing is past.
 
-{cores} shared cores: ratios within one run count, absolute times do not.
+{cores} shared cores{}: ratios within one run count, absolute times do not.
 
 | tasks | stream | call | heap ns | inner ns | ratio | public ns | ratio |
 |---|---|---|---|---|---|---|---|
@@ -120,10 +130,11 @@ reading is one back: it does nothing but take the block and give it back).
 {}
 ## Is it quick enough?
 
-- An inner form takes {inner:.1} to {inner_most:.1} times what the heap takes, {slowest_inner:.0} ns at most; a public call {public:.1} to {public_most:.1} times, {slowest:.0} ns at most.
-- The whole-test is {tested:.0} % of a public call, and the block by value {passed:.0} % of an inner form: the work to do is there.
+- An inner form takes {inner:.1} to {inner_most:.1} times what the heap takes, {slowest_inner:.0} ns in the slowest row; a public call {public:.1} to {public_most:.1} times, {slowest:.0} ns.
+- The whole-test is {tested:.0} % of a public call, and passing the block by value once is {passed:.0} % of an inner form (medians): time is to be saved there first.
 - {}
 ",
+        load(),
         prices(streams),
         promoting(streams)
     )
