@@ -99,6 +99,20 @@ pub struct Kernel {
     pub unfinished: Vec<Job>,
 }
 
+/// The time of a call: the clock and what has elapsed since the last reading; or 5, then 6.
+pub fn time_at(clock: u64, last: u32, reading: u32) -> Result<u64, u8> {
+    let elapsed = reading.wrapping_sub(last);
+    if elapsed >= 1 << 31 {
+        return Err(5);
+    }
+    let time = clock + elapsed as u64;
+    if time > LAST_TICK {
+        Err(6)
+    } else {
+        Ok(time)
+    }
+}
+
 impl Kernel {
     pub fn start(table: &[Task], reading: u32) -> Result<Kernel, Refusal> {
         table_tests(table)?;
@@ -129,16 +143,7 @@ impl Kernel {
 
     /// The clock at a reading; or 5, then 6.
     fn time_of(&self, reading: u32) -> Result<u64, u8> {
-        let elapsed = reading.wrapping_sub(self.reading);
-        if elapsed >= 1 << 31 {
-            return Err(5);
-        }
-        let time = self.clock + elapsed as u64;
-        if time > LAST_TICK {
-            Err(6)
-        } else {
-            Ok(time)
-        }
+        time_at(self.clock, self.reading, reading)
     }
 
     fn is_task(&self, task: u8) -> bool {

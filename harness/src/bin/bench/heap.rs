@@ -1,7 +1,7 @@
 //! What the kernel is timed beside: the same calls and tests over a binary heap of the unfinished jobs, whose first runs. It has no levels,
 //! so nothing is promoted.
 
-use crate::model::{Call, Kernel, Task, LAST_TICK, MOST};
+use crate::model::{time_at, Call, Kernel, Task, MOST};
 use std::cmp::Reverse;
 use std::collections::BinaryHeap;
 
@@ -55,25 +55,11 @@ impl<'a> Heap<'a> {
         self.jobs.peek().map_or(0, |job| job.0 .2)
     }
 
-    /// 5, then 6.
-    fn time_of(&self, reading: u32) -> Result<u64, u8> {
-        let elapsed = reading.wrapping_sub(self.reading);
-        if elapsed >= 1 << 31 {
-            return Err(5);
-        }
-        let time = self.clock + elapsed as u64;
-        if time > LAST_TICK {
-            Err(6)
-        } else {
-            Ok(time)
-        }
-    }
-
     /// Who runs, and the margin of a job that is done; or the number of the refusal.
     pub fn call(&mut self, call: Call) -> Result<(u8, Option<i64>), u8> {
         self.calls += 1;
         let (Call::Release { reading, .. } | Call::Done { reading, .. } | Call::Clock { reading }) = call;
-        let time = self.time_of(reading)?;
+        let time = time_at(self.clock, self.reading, reading)?;
         let margin = match call {
             Call::Release { task, .. } => self.release(task, time)?,
             Call::Done { task, .. } => self.done(task, time)?,
