@@ -3,8 +3,6 @@
 // and at the end tested, so that no call can leave it out.
 ghost use mathlib.Core.Path.{_≡_};
 ghost use Prim.Native.Nat.{_≤_};
-ghost use Rattle.rules.specs.Lines.{taskIn};
-ghost use Rattle.lists.specs.Answers.{whoIn};
 ghost use Rattle.kernel.specs.Block.{Whole};
 ghost use Rattle.kernel.specs.Answers.{answerIn};
 ghost use Rattle.kernel.specs.Calls.{Gives, Does};
@@ -14,23 +12,12 @@ use image::load;
 use kernel::Answer;
 use kernel::Block;
 use kernel::Called;
-use lists::Who;
 use table::TaskNo;
 
 fn wide(n: u8) -> u64
     ensures { λ r. ⌜ (r ≡ n) × (r ≤ 255) ⌝ }
 {
     n as u64
-}
-
-// The running task; 0 for nobody.
-fn task_of(who: Who) -> u64
-    ensures { λ r. ⌜ (r ≡ taskIn (whoIn who)) × (r ≤ 255) ⌝ }
-{
-    match who {
-        Who::Nobody => 0,
-        Who::One(task) => wide(task.0),
-    }
 }
 
 // The task that an answer names; 0 where it names none.
@@ -44,7 +31,7 @@ fn named(called: Called) -> u64
             running,
             moves: _,
             margin: _,
-        } => task_of(running),
+        } => wide(running.number()),
     }
 }
 

@@ -22,8 +22,8 @@ use Rattle.table.specs.declared.Table.{Table}
 use Rattle.table.specs.Stored.{tableOf, verdictIn}
 use Rattle.lists.specs.declared.Who.{Who}
 use Rattle.lists.specs.Answers.{whoIn}
-use Rattle.records.specs.Load.{tableIn}
-use Rattle.records.proofs.Loading.{table-verdict}
+use Rattle.stream.specs.Load.{tableIn}
+use Rattle.stream.proofs.Loading.{table-verdict}
 use Rattle.kernel.specs.declared.Block.{Block}
 use Rattle.kernel.specs.declared.Called.{Called}
 use Rattle.kernel.specs.declared.Refusal.{Refusal}

@@ -10,7 +10,7 @@ use Rattle.rules.specs.Numbers.{Verdict, Passed, Failed, firstOf}
 use Rattle.rules.specs.Calls.{Call, Answer, Accepted, Refused}
 use Rattle.rules.specs.Records.{itemsOf, tasksIn, runnerTests}
 use Rattle.lists.proofs.Storage.{Sized}
-use Rattle.records.specs.Load.{tableIn}
+use Rattle.stream.specs.Load.{tableIn}
 use Rattle.kernel.specs.declared.Called.{Called}
 use Rattle.kernel.specs.declared.start.Started.{Started}
 use Rattle.kernel.specs.declared.asks.Listed.{Listed}

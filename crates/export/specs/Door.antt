@@ -19,7 +19,7 @@ use Rattle.kernel.specs.Answers.{answerIn}
 use Rattle.kernel.specs.Calls as Calls
 use Rattle.kernel.specs.Start as Start
 use Rattle.kernel.specs.Asks as Asks
-use Rattle.records.specs.Load.{tableIn}
+use Rattle.stream.specs.Load.{tableIn}
 use Rattle.image.specs.Bytes.{size, bytesOf, blockIn}
 
 -- so many bytes as a block has

@@ -21,11 +21,10 @@ use kernel::Called;
 use kernel::Margin;
 use kernel::asks::Listed;
 use kernel::start::start;
-use records::stream::Stream;
-use records::stream::stream_test;
-use records::stream::table_in;
-use run::events::task_in;
 use run::run;
+use stream::Stream;
+use stream::stream_test;
+use stream::table_in;
 use table::TaskNo;
 use table::Verdict;
 use text::below_zero;
@@ -108,7 +107,7 @@ fn stored(called: Called, block: &mut [u8], answer: &mut [u64; 4]) -> u8
         } => {
             save(after, block);
             *answer = [
-                task_in(running),
+                running.number() as u64,
                 moves as u64,
                 kind_of(margin),
                 ticks_of(margin),

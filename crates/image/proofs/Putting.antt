@@ -1,4 +1,4 @@
--- Bytes put into a lent buffer: one byte, a number, an array. Assumes nothing.
+-- Bytes put into a lent buffer: a number, an array. Assumes nothing.
 use mathlib.Core.Path.{_≡_, refl, sym, ap, _∙_}
 use mathlib.Core.Bool.{Bool, true, false}
 use mathlib.Core.List.{List, [], _∷_, _++_, append-assoc, append-nil}
@@ -9,19 +9,8 @@ use lib.ListN.{length, getD, take, set}
 use lib.Seq.{take-suc, take-all}
 use mir.Val.{boolByte}
 use Rattle.laws.specs.Words.{digit, Puts}
-use Rattle.laws.proofs.Buffers.{Filling, filling-turn, puts-then, puts-as}
+use Rattle.laws.proofs.Buffers.{Filling, filling-turn, puts-then, puts-to, puts-as}
 use Rattle.image.specs.Bytes.{little, allBytes}
-
-pub puts-byte : (buffer : List ℕ) (place x : ℕ) → Puts buffer place (x ∷ []) (place + 1) (set buffer place x)
-puts-byte buffer place x = record { size = refl; buffer = refl }
-
--- the end, said in another way
-pub puts-to : {a b xs : List ℕ} {place j k : ℕ} → j ≡ k → Puts a place xs j b → Puts a place xs k b
-puts-to e p = record { size = sym e ∙ p .size; buffer = p .buffer }
-
--- one piece behind another
-pub puts-behind : {a b c xs ys : List ℕ} {i j k l : ℕ} → Puts a i xs j b → Puts b k ys l c → j ≡ k → Puts a i (xs ++ ys) l c
-puts-behind p q e = puts-then (puts-to e p) q
 
 -- a bool's byte
 pub byte-is : (b : Bool) → boolByte b ≡ digit b

@@ -70,6 +70,9 @@ module _ {X : Type 0} where
   pub puts-none : (buffer : List X) (place : ℕ) → Puts buffer place [] place buffer
   puts-none buffer place = record { size = sym (add-zero place); buffer = refl }
 
+  pub puts-byte : (buffer : List X) (place : ℕ) (x : X) → Puts buffer place (x ∷ []) (place + 1) (set buffer place x)
+  puts-byte buffer place x = record { size = refl; buffer = refl }
+
   -- one piece behind another is the two joined
   pub puts-then : {a b c : List X} {i j k : ℕ} {xs ys : List X} → Puts a i xs j b → Puts b j ys k c → Puts a i (xs ++ ys) k c
   puts-then {a} {b} {c} {i} {j} {k} {xs} {ys} p q =
@@ -88,6 +91,14 @@ module _ {X : Type 0} where
   -- the same piece, said in another way
   pub puts-as : {a b : List X} {i j : ℕ} {xs ys : List X} → xs ≡ ys → Puts a i xs j b → Puts a i ys j b
   puts-as {a} {b} {i} {j} e p = subst (λ zs. Puts a i zs j b) e p
+
+  -- the end, said in another way
+  pub puts-to : {a b xs : List X} {place j k : ℕ} → j ≡ k → Puts a place xs j b → Puts a place xs k b
+  puts-to e p = record { size = sym e ∙ p .size; buffer = p .buffer }
+
+  -- one piece behind another, where its place is said in another way
+  pub puts-behind : {a b c xs ys : List X} {i j k l : ℕ} → Puts a i xs j b → Puts b k ys l c → j ≡ k → Puts a i (xs ++ ys) l c
+  puts-behind p q e = puts-then (puts-to e p) q
 
   -- from the front it is `written`
   pub puts-written : {a b : List X} {j : ℕ} {xs : List X} → length xs ≤ length a → Puts a 0 xs j b → b ≡ written xs a

@@ -25,6 +25,7 @@ ghost use Prim.Native.Nat.{ℕ, suc, _-_};
 ghost use Rattle.laws.specs.Bits.{BitMade};
 ghost use Rattle.rules.specs.Table.{most};
 ghost use Rattle.rules.specs.Calls.{toFront, toEnd, frontOf, lowest};
+ghost use Rattle.rules.specs.Lines.{taskIn};
 ghost use Rattle.lists.specs.Links.{Stores, Numbered};
 ghost use Rattle.lists.specs.Answers.{storedOf, listsOf, whoIn, foundAt, PopsFrom, frontMoved, Holds, HoldsAt, MayEnter};
 use table::Level;
@@ -56,6 +57,18 @@ pub struct Stored {
 pub enum Who {
     Nobody,
     One(TaskNo),
+}
+
+impl Who {
+    // "0 nobody"
+    pub fn number(self) -> u8
+        ensures { λ r. ⌜ r ≡ taskIn (whoIn self) ⌝ }
+    {
+        match self {
+            Who::Nobody => 0,
+            Who::One(task) => task.0,
+        }
+    }
 }
 
 // A level, where there is one.

@@ -1,5 +1,3 @@
--- Laws of records and of their streams.
+-- Laws of records.
 pub mod Marks
-pub mod Tests
-pub mod Loading
 pub mod Results

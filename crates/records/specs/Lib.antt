@@ -1,3 +1,2 @@
 -- What the contracts of `records` cite beside the rules.
 pub mod Read
-pub mod Load

@@ -1,11 +1,9 @@
--- What is read, as the rules' records; and what the tests of a stream answer, as the rules' verdict.
+-- What is read, as the rules' records.
 use Prim.Native.Nat.{ℕ}
 use mathlib.Core.Bool.{_&&_}
 use mathlib.Core.List.{List}
 use lib.Dec.{eqb}
 use Rattle.laws.specs.Words.{pick}
-use Rattle.rules.specs.Numbers.{Verdict, Passed, Failed}
-use Rattle.rules.specs.Numbers as Numbers
 use Rattle.rules.specs.Calls as Calls
 use Rattle.rules.specs.Records as Rules
 use Rattle.table.specs.Stored.{taskOf}
@@ -17,8 +15,6 @@ use Rattle.records.specs.declared.Record.{Record}
 use Rattle.records.specs.declared.Record.the-variants as Record
 use Rattle.records.specs.declared.Found.{Found}
 use Rattle.records.specs.declared.Found.the-variants as Found
-use Rattle.records.specs.declared.stream.Stream.{Stream}
-use Rattle.records.specs.declared.stream.Stream.the-variants as Stream
 
 abbrev pub callIn : Event → Calls.Call
 callIn (Event.Release reading task) = Calls.Release reading (task .0)
@@ -37,13 +33,6 @@ abbrev pub foundIn : Found → Rules.Found
 foundIn Found.End = Rules.End
 foundIn (Found.Read r size) = readAs r size
 foundIn Found.Bad = Rules.Bad
-
--- 12, 13 and 14, and their offsets, are those of this verdict (the rules' `numberOf`, `valueOf`)
-abbrev pub streamIn : Stream → Verdict
-streamIn Stream.Readable = Passed
-streamIn (Stream.Unreadable n) = Failed (Numbers.Unreadable n)
-streamIn (Stream.TaskBehindEvent n) = Failed (Numbers.TaskBehindEvent n)
-streamIn Stream.TooLong = Failed Numbers.InputTooLong
 
 -- ---- inside: the table of marks, by their names
 

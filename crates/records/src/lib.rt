@@ -5,7 +5,7 @@
 //     DN   a reading, a task byte          7                   done
 //     TM   a reading                       6                   clock
 //
-// Numbers are little-endian. Each function takes a few steps; `stream` has the tests of a whole stream, and its table.
+// Numbers are little-endian. Each function takes a few steps.
 ghost use mathlib.Core.Path.{_≡_};
 ghost use Prim.Native.Nat.{_+_, _<_, _≤_};
 ghost use lib.ListN.{length};
@@ -13,8 +13,6 @@ ghost use Rattle.rules.specs.Records.{word, recordAt};
 ghost use Rattle.records.specs.Read.{markIn, sizeIn, saysIn, foundIn};
 use table::Task;
 use table::TaskNo;
-
-pub mod stream; // the tests of a stream, and its table
 
 // The two bytes before a record.
 enum Mark {

@@ -1,6 +1,5 @@
 -- A table that is laid down: the places, first levels and plans of its tasks. Assumes nothing.
 use mathlib.Core.Path.{_≡_, sym, ap, _∙_}
-use mathlib.Core.List.{List}
 use Prim.Native.Nat.{ℕ, _-_, _≤_}
 use native.Mathlib.Omega.{arith}
 use lib.IntN.{pos}
@@ -18,10 +17,6 @@ use Rattle.text.specs.Shown.{pointsIn}
 use Rattle.text.proofs.Shown.{points-count, points-held}
 use Rattle.jobs.specs.declared.Tasks.{Tasks}
 use Rattle.run.specs.Run.{LaidTask}
-
-pub first-low : (table : List Task) (k : ℕ) → 1 ≤ firstLevel table k
-unfolding firstLevel
-first-low table k = omega arith
 
 module _ (tasks : Tasks) (k : ℕ) (w : LaidTask tasks k) (long : length (tasks .table .tasks) ≡ most) where
   pub laid-place : (1 ≤ k) × (k ≤ tasks .table .count) × (tasks .table .count ≤ most)

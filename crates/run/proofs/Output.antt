@@ -22,8 +22,8 @@ use Rattle.table.specs.declared.Table.{Table}
 use Rattle.table.specs.Stored.{tableOf, verdictIn}
 use Rattle.text.specs.Shown.{numbersText}
 use Rattle.text.proofs.Shown.{refusal-shown}
-use Rattle.records.specs.Load.{tableIn}
-use Rattle.records.proofs.Loading.{table-same, table-verdict, table-places}
+use Rattle.stream.specs.Load.{tableIn}
+use Rattle.stream.proofs.Loading.{table-same, table-verdict, table-places}
 use Rattle.kernel.specs.declared.Block.{Block}
 use Rattle.kernel.specs.declared.start.Started as Kernel
 use Rattle.kernel.specs.Block.{viewOf}

@@ -1,6 +1,5 @@
 -- One event: its call on a whole block is the rules' step, and all that it does. Assumes nothing.
-use mathlib.Core.Path.{_≡_, refl, sym, ap, ap₂, _∙_}
-use mathlib.Core.Bool.{true}
+use mathlib.Core.Path.{_≡_, sym, ap, ap₂, _∙_}
 use mathlib.Core.List.{List}
 use Prim.Native.Nat.{ℕ, _+_, _≤_}
 use native.Mathlib.Numerals.{add-one}
@@ -8,15 +7,13 @@ use native.Mathlib.Omega.{arith}
 use lib.ListN.{length}
 use Rattle.laws.specs.Words.{Puts}
 use Rattle.laws.proofs.Buffers.{puts-as}
-use Rattle.laws.proofs.Counts.{count-le}
-use Rattle.rules.specs.Table.{most, isTask}
+use Rattle.rules.specs.Table.{most}
 use Rattle.rules.specs.Histories.{shareBy}
-use Rattle.rules.specs.State.{Running, State, waiting}
-use Rattle.rules.specs.Calls.{Call, Release, Answer, Accepted, Margin, movesIn, movesOf, stepOf}
+use Rattle.rules.specs.State.{State}
+use Rattle.rules.specs.Calls.{Call, Answer, movesIn, stepOf}
 use Rattle.rules.specs.Lines.{EventLine, lineOf}
 use Rattle.rules.specs.Text.{eventText}
-use Rattle.rules.proofs.Refusals.{accepted-refused}
-use Rattle.rules.proofs.Steps.{step-cases, may-release, timeOfCall}
+use Rattle.rules.proofs.Steps.{step-cases, timeOfCall, accepted-task, moves-waiting}
 use Rattle.table.specs.Stored.{tableOf}
 use Rattle.lists.proofs.Together.{listing-few}
 use Rattle.kernel.specs.declared.Block.{Block}
@@ -32,16 +29,6 @@ use Rattle.run.specs.declared.events.Progress.{Progress}
 use Rattle.run.specs.Run.{stepIn, eventRoom, Laid, Shares, Begins, Steps}
 
 -- ---- the call
-
--- an accepted release is one of the table's tasks
-accepted-task : (s : State) (n k : ℕ) {x : Running} {m : ℕ} {g : Margin} → stepOf s (Release n k) .answer ≡ Accepted x m g → isTask (s .table) k ≡ true
-accepted-task s n k {x} {m} {g} =
-    step-cases (λ y. y .answer ≡ Accepted x m g → isTask (s .table) k ≡ true) s (Release n k)
-    (λ r e a. accepted-refused a refl) (λ p a. may-release s n k p .task)
-
-moves-waiting : (s : State) (time : ℕ) → movesOf s time ≤ length (waiting s)
-unfolding movesOf
-moves-waiting s time = count-le _ (waiting s)
 
 module _ (b : Block) (w : Whole b) where
   -- a call moves few jobs

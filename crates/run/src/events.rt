@@ -12,7 +12,6 @@ ghost use Rattle.text.specs.Shown.{shownAs};
 ghost use Rattle.records.specs.Read.{callIn};
 ghost use Rattle.kernel.specs.Block.{Whole};
 ghost use Rattle.kernel.specs.Answers.{answerIn};
-ghost use Rattle.lists.specs.Answers.{whoIn};
 ghost use Rattle.kernel.specs.Calls.{Gives};
 ghost use Rattle.run.specs.Run.{totalsOf, stepIn, eventRoom, eventsRoom, LaidTask, Shares, Steps, Begins, Ends};
 use jobs::Tasks;
@@ -21,7 +20,6 @@ use kernel::Block;
 use kernel::Called;
 use kernel::Margin;
 use levels::first_level;
-use lists::Who;
 use records::Event;
 use records::Found;
 use records::Record;
@@ -68,16 +66,6 @@ fn call(block: Block, event: Event) -> Called
     }
 }
 
-// "running task (0 nobody)"
-pub fn task_in(running: Who) -> u64
-    ensures { λ r. ⌜ r ≡ Rules.taskIn (whoIn running) ⌝ }
-{
-    match running {
-        Who::Nobody => 0,
-        Who::One(task) => task.0 as u64,
-    }
-}
-
 // What the line of an event shows: running and waiting are those after it, moves and margin those of its answer.
 fn shown(count: u64, called: Called) -> Shown
     requires { ⌜ Whole (called .block) ⌝ }
@@ -88,7 +76,7 @@ fn shown(count: u64, called: Called) -> Shown
     let ready = block.ready;
     let lists = ready.lists;
     let who = ready.running;
-    let running = task_in(who);
+    let running = who.number() as u64;
     let waiting = lists.waiting() as u64;
     match answer {
         Answer::Accepted {

@@ -1,3 +1,4 @@
+use mathlib.Core.Path.{_∙_}
 use borrow.Author.Needs.{needs}
 use Rattle.bench.proofs.named.Statement.{statement}
 use Rattle.bench.proofs.named.Tie as tie
@@ -8,14 +9,17 @@ enum-told c = search needs
 enum-known-answer : tie.Need-enum-known-answer
 enum-known-answer c = search needs
 
-task-of-requires : tie.Need-task-of-requires
-task-of-requires c κs = search needs
+number-requires : tie.Need-number-requires
+number-requires c κs = search needs
+
+wide-requires : tie.Need-wide-requires
+wide-requires c κs = search needs
 
 returns : tie.Need-returns
 returns c = search needs
 
 returns-2 : tie.Need-returns-2
-returns-2 c = rw (c .before .before .answer .given .1) (c .task-of .ensures)
+returns-2 c = rw (c .before .before .before .answer .given .1) (c .wide .ensures .0 ∙ c .before .number .ensures, c .wide .ensures .1)
 
 pub named-spec : {M : Type 1} → statement M
-named-spec = tie.close (tie.spec enum-told enum-known-answer task-of-requires returns returns-2)
+named-spec = tie.close (tie.spec enum-told enum-known-answer number-requires wide-requires returns returns-2)

@@ -6,9 +6,8 @@ use Rattle.rules.specs.Numbers.{Passed, longest}
 use Rattle.rules.specs.Records.{streamOf}
 use Rattle.table.specs.Stored.{verdictIn}
 use Rattle.table.proofs.Tests.{not-sound}
-use Rattle.records.specs.Read.{streamIn}
-use Rattle.records.proofs.Results.{not-readable}
-use Rattle.export.proofs.Offsets.{offset-within}
+use Rattle.stream.specs.Answer.{streamIn}
+use Rattle.stream.proofs.Results.{not-readable, offset-small}
 use Rattle.export.proofs.Doors.{begins-none, begins-unreadable, begins-refused, begins-sound}
 use Rattle.export.proofs.meter_start.Statement.{statement}
 use Rattle.export.proofs.meter_start.Tie as tie
@@ -20,7 +19,7 @@ readable c = sym (c .before .before .stream-test .ensures) ∙ ap streamIn (c .e
 small : (c : tie.After-offset) → c .offset .result ≤ longest
 small c =
     let tested = c .before .before .before in let s = tested .before .before .before .before in
-    omega (arith, c .offset .ensures, offset-within (s .args .stream .now) (tested .stream-test .result) (tested .stream-test .ensures))
+    omega (arith, c .offset .ensures, offset-small (s .args .stream .now) (tested .stream-test .result) (tested .stream-test .ensures))
 
 returns : tie.Need-returns
 returns c = let s = c .before .before .before in begins-none (s .args .stream .now) (s .args .reading) (s .args .block .now) (c .if1 .taken)

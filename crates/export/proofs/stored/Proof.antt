@@ -15,11 +15,14 @@ enum-known-given-2 c = search needs
 save-requires : tie.Need-save-requires
 save-requires c κs = search needs
 
-task-in-requires : tie.Need-task-in-requires
-task-in-requires c κs = search needs
+number-requires-2 : tie.Need-number-requires-2
+number-requires-2 c κs = search needs
 
 cast-t15 : tie.Need-cast-t15
 cast-t15 c = search needs
+
+cast-t16 : tie.Need-cast-t16
+cast-t16 c = search needs
 
 kind-of-requires : tie.Need-kind-of-requires
 kind-of-requires c κs = search needs
@@ -39,7 +42,7 @@ returns-2 : tie.Need-returns-2
 returns-2 c =
     let told = c .before in let kept = told .before .before .before .before .before in let s = kept .before .before .before .before .before .before .before in
     answers-accepted (s .args .called) (s .args .block .now) (s .args .answer .now) (kept .before .before .before .given2 .given .1) (kept .save .ensures)
-    (told .before .before .task-in .ensures) (told .before .kind-of .ensures) (told .ticks-of .ensures)
+    (told .before .before .number2 .ensures) (told .before .kind-of .ensures) (told .ticks-of .ensures)
 
 pub stored-spec : {M : Type 1} → statement M
 stored-spec =
@@ -49,8 +52,9 @@ stored-spec =
     number-requires
     enum-known-given-2
     save-requires
-    task-in-requires
+    number-requires-2
     cast-t15
+    cast-t16
     kind-of-requires
     ticks-of-requires
     returns

@@ -1,8 +1,7 @@
 use native.Mathlib.Omega.{arith}
 use borrow.Author.Needs.{needs}
-use Rattle.laws.proofs.Buffers.{puts-written}
+use Rattle.laws.proofs.Buffers.{puts-written, puts-behind}
 use Rattle.image.specs.Bytes.{bytesOf}
-use Rattle.image.proofs.Putting.{puts-behind}
 use Rattle.image.proofs.save.Statement.{statement}
 use Rattle.image.proofs.save.Tie as tie
 

@@ -2,8 +2,8 @@ use mathlib.Core.Path.{_≡_, refl, sym, ap, _∙_}
 use native.Mathlib.Omega.{arith}
 use borrow.Author.Needs.{needs}
 use Rattle.laws.proofs.Buffers.{puts-length}
-use Rattle.records.specs.Read.{streamIn}
-use Rattle.records.proofs.Results.{not-readable}
+use Rattle.stream.specs.Answer.{streamIn}
+use Rattle.stream.proofs.Results.{not-readable}
 use Rattle.run.proofs.Output.{stream-refused, numbers-put, too-little, enough}
 use Rattle.run.proofs.run.Statement.{statement}
 use Rattle.run.proofs.run.Tie as tie

@@ -1,8 +1,8 @@
 use native.Mathlib.Omega.{arith}
 use borrow.Author.Needs.{needs}
 use lib.ListN.{length-set}
-use Rattle.laws.proofs.Buffers.{puts-length}
-use Rattle.image.proofs.Putting.{byte-is, puts-byte, puts-to, puts-behind}
+use Rattle.laws.proofs.Buffers.{puts-length, puts-byte, puts-to, puts-behind}
+use Rattle.image.proofs.Putting.{byte-is}
 use Rattle.image.proofs.put.put_job.Statement.{statement}
 use Rattle.image.proofs.put.put_job.Tie as tie
 

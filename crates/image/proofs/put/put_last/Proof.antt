@@ -1,8 +1,7 @@
 use native.Mathlib.Omega.{arith}
 use borrow.Author.Needs.{needs}
 use lib.ListN.{length-set}
-use Rattle.laws.proofs.Buffers.{puts-then, puts-length}
-use Rattle.image.proofs.Putting.{puts-byte, puts-to}
+use Rattle.laws.proofs.Buffers.{puts-then, puts-length, puts-byte, puts-to}
 use Rattle.image.proofs.put.put_last.Statement.{statement}
 use Rattle.image.proofs.put.put_last.Tie as tie
 

@@ -4,10 +4,10 @@ use native.Mathlib.Omega.{arith}
 use borrow.Author.Needs.{needs}
 use lib.ListN.{length}
 use Rattle.laws.proofs.Arrays.{long-map}
-use Rattle.laws.proofs.Buffers.{puts-length}
+use Rattle.laws.proofs.Buffers.{puts-length, puts-byte}
 use Rattle.rules.specs.Table.{most}
 use Rattle.image.specs.Bytes.{taskNoBytes}
-use Rattle.image.proofs.Putting.{puts-byte, FirstPut, none-put, next-put, all-put}
+use Rattle.image.proofs.Putting.{FirstPut, none-put, next-put, all-put}
 use Rattle.image.proofs.put.put_places.Statement.{statement}
 use Rattle.image.proofs.put.put_places.Tie as tie
 

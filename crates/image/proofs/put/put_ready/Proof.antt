@@ -1,9 +1,8 @@
 use mathlib.Core.Path.{ap}
 use native.Mathlib.Omega.{arith}
 use borrow.Author.Needs.{needs}
-use Rattle.laws.proofs.Buffers.{puts-as}
+use Rattle.laws.proofs.Buffers.{puts-as, puts-to, puts-behind}
 use Rattle.image.specs.Bytes.{storedBytes}
-use Rattle.image.proofs.Putting.{puts-to, puts-behind}
 use Rattle.image.proofs.put.put_ready.Statement.{statement}
 use Rattle.image.proofs.put.put_ready.Tie as tie
 

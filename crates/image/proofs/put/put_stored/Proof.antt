@@ -1,6 +1,6 @@
 use native.Mathlib.Omega.{arith}
 use borrow.Author.Needs.{needs}
-use Rattle.image.proofs.Putting.{puts-to, puts-behind}
+use Rattle.laws.proofs.Buffers.{puts-to, puts-behind}
 use Rattle.image.proofs.put.put_stored.Statement.{statement}
 use Rattle.image.proofs.put.put_stored.Tie as tie
 

@@ -6,9 +6,10 @@ use lib.ListN.{length}
 use Rattle.laws.proofs.Arrays.{long-map}
 use Rattle.rules.specs.Table.{most}
 use Rattle.rules.specs.Levels.{firstLevel}
+use Rattle.rules.proofs.Levels.{first-low}
 use Rattle.table.specs.Stored.{tableOf}
 use Rattle.table.proofs.Tests.{table-length}
-use Rattle.run.proofs.Laid.{first-low, laid-place, laid-first, laid-copied}
+use Rattle.run.proofs.Laid.{laid-place, laid-first, laid-copied}
 use Rattle.run.proofs.events.first_share.Statement.{statement}
 use Rattle.run.proofs.events.first_share.Tie as tie
 

@@ -11,8 +11,11 @@ use Rattle.run.proofs.events.shown.Tie as tie
 counted : (c : tie.After-waiting) → c .waiting .result ≡ length (waiting (viewOf (c .before .before .before .before .before .args .called .block)))
 counted c = let s = c .before .before .before .before .before in c .waiting .ensures _ (lists-viewed (s .args .called .block) (s .pre))
 
-task-in-requires : tie.Need-task-in-requires
-task-in-requires c κs = search needs
+number-requires : tie.Need-number-requires
+number-requires c κs = search needs
+
+cast-running : tie.Need-cast-running
+cast-running c = search needs
 
 waiting-requires : tie.Need-waiting-requires
 waiting-requires c κs = search needs
@@ -20,38 +23,39 @@ waiting-requires c κs = search needs
 enum-known-answer : tie.Need-enum-known-answer
 enum-known-answer c = search needs
 
-cast-t15 : tie.Need-cast-t15
-cast-t15 c = search needs
+cast-t16 : tie.Need-cast-t16
+cast-t16 c = search needs
 
 enum-known-answer-2 : tie.Need-enum-known-answer-2
 enum-known-answer-2 c = search needs
 
-number-requires : tie.Need-number-requires
-number-requires c κs = search needs
+number-requires-2 : tie.Need-number-requires-2
+number-requires-2 c κs = search needs
 
-cast-t17 : tie.Need-cast-t17
-cast-t17 c = search needs
+cast-t18 : tie.Need-cast-t18
+cast-t18 c = search needs
 
 returns : tie.Need-returns
 returns c =
     let w = c .before .before .before in let a = w .before .before .before .before .before .args in
-    line-accepted (a .count) (a .called) (w .before .task-in .ensures) (counted w) (c .before .answer .given .1)
+    line-accepted (a .count) (a .called) (w .before .number .ensures) (counted w) (c .before .answer .given .1)
 
 returns-2 : tie.Need-returns-2
 returns-2 c =
     let w = c .before .before .before .before in let a = w .before .before .before .before .before .args in
-    line-refused (a .count) (a .called) (w .before .task-in .ensures) (counted w) (c .before .before .answer2 .given .1) (c .number .ensures)
+    line-refused (a .count) (a .called) (w .before .number .ensures) (counted w) (c .before .before .answer2 .given .1) (c .number2 .ensures)
 
 pub shown-spec : {M : Type 1} → statement M
 shown-spec =
     tie.close
     (tie.spec
-    task-in-requires
+    number-requires
+    cast-running
     waiting-requires
     enum-known-answer
-    cast-t15
+    cast-t16
     enum-known-answer-2
-    number-requires
-    cast-t17
+    number-requires-2
+    cast-t18
     returns
     returns-2)

@@ -10,11 +10,11 @@ use lib.ListN.{length}
 use Rattle.laws.proofs.Bools.{true-false}
 use Rattle.rules.specs.Records.{recordAt}
 use Rattle.rules.proofs.Streams.{read-within, tests-end, tests-bad}
 use Rattle.records.specs.declared.Record.{Record}
 use Rattle.records.specs.Read.{recordIn, readAs, foundIn}
-use Rattle.records.proofs.Tests.{testsFrom, tests-none, turn-late, turn-task, turn-event}
-use Rattle.records.proofs.stream.records_test.Statement.{statement}
-use Rattle.records.proofs.stream.records_test.Tie as tie
+use Rattle.stream.proofs.Tests.{testsFrom, tests-none, turn-late, turn-task, turn-event}
+use Rattle.stream.proofs.records_test.Statement.{statement}
+use Rattle.stream.proofs.records_test.Tie as tie
 
 abbrev Inv-loop : tie.InvT-loop
 Inv-loop stream at₀ begun₀ at begun = (at ≤ length stream) × (testsFrom stream begun at ≡ testsFrom stream false 0)

@@ -1,9 +1,9 @@
 use mathlib.Core.Logic.{⊎-elim}
 use native.Mathlib.Omega.{arith}
 use borrow.Author.Needs.{needs}
-use Rattle.records.proofs.Loading.{added-kept, added-past}
-use Rattle.records.proofs.stream.added.Statement.{statement}
-use Rattle.records.proofs.stream.added.Tie as tie
+use Rattle.stream.proofs.Loading.{added-kept, added-past}
+use Rattle.stream.proofs.added.Statement.{statement}
+use Rattle.stream.proofs.added.Tie as tie
 
 mul-tasks : tie.Need-mul-tasks
 mul-tasks c = search needs

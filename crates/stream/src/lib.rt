@@ -1,4 +1,9 @@
 // A whole stream: its tests, and the table that its task records make.
+//
+//     stream_test      14, then 12 and 13 at each record, from the front
+//     table_in         the task records, in their order
+//
+// Each reads the stream once.
 ghost use mathlib.Core.Path.{_≡_};
 ghost use mathlib.Core.List.{List, [], _∷_, _++_};
 ghost use mathlib.Core.Bool.{false};
@@ -7,11 +12,12 @@ ghost use Rattle.rules.specs.Numbers.{firstOf, numberIn, givenWith};
 ghost use Rattle.rules.specs.Table as Rules;
 ghost use Rattle.rules.specs.Records.{isTaskRecord, itemsOf, recordTests, streamOf, tasksIn};
 ghost use Rattle.table.specs.Stored.{taskOf};
-ghost use Rattle.records.specs.Read.{readAs, streamIn};
-ghost use Rattle.records.specs.Load.{tableIn};
-use super::Found;
-use super::Record;
-use super::read;
+ghost use Rattle.records.specs.Read.{readAs};
+ghost use Rattle.stream.specs.Answer.{streamIn};
+ghost use Rattle.stream.specs.Load.{tableIn};
+use records::Found;
+use records::Record;
+use records::read;
 use table::MOST;
 use table::Table;
 use table::Task;

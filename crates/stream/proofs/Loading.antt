@@ -20,7 +20,7 @@ use Rattle.table.specs.declared.Table.{Table}
 use Rattle.table.specs.declared.Task.{Task}
 use Rattle.table.specs.Stored.{taskOf, tableOf}
 use Rattle.table.proofs.Tests.{table-length, table-is}
-use Rattle.records.specs.Load.{storedAs, noTask, tableIn}
+use Rattle.stream.specs.Load.{storedAs, noTask, tableIn}
 
 -- ---- one task more
 

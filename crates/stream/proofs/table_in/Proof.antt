@@ -7,11 +7,11 @@ use borrow.Author.Needs.{needs}
 use lib.ListN.{length}
 use Rattle.rules.specs.Records.{recordAt}
 use Rattle.rules.proofs.Streams.{read-within}
 use Rattle.records.specs.declared.Record.{Record}
 use Rattle.records.specs.Read.{callIn, recordIn, readAs, foundIn}
-use Rattle.records.proofs.Loading.{Loaded, loaded-start, loaded-count, loaded-past, loaded-end, loaded-bad, loaded-event, loaded-task}
-use Rattle.records.proofs.stream.table_in.Statement.{statement}
-use Rattle.records.proofs.stream.table_in.Tie as tie
+use Rattle.stream.proofs.Loading.{Loaded, loaded-start, loaded-count, loaded-past, loaded-end, loaded-bad, loaded-event, loaded-task}
+use Rattle.stream.proofs.table_in.Statement.{statement}
+use Rattle.stream.proofs.table_in.Tie as tie
 
 abbrev Inv-loop : tie.InvT-loop
 Inv-loop stream table₀ at₀ table at = (at ≤ length stream) × Loaded stream at table

@@ -1,9 +1,9 @@
 use mathlib.Core.Path.{sym, _∙_}
 use native.Mathlib.Omega.{arith}
 use borrow.Author.Needs.{needs}
-use Rattle.records.proofs.Tests.{too-long, short-enough}
-use Rattle.records.proofs.stream.stream_test.Statement.{statement}
-use Rattle.records.proofs.stream.stream_test.Tie as tie
+use Rattle.stream.proofs.Tests.{too-long, short-enough}
+use Rattle.stream.proofs.stream_test.Statement.{statement}
+use Rattle.stream.proofs.stream_test.Tie as tie
 
 returns : tie.Need-returns
 returns c = sym (too-long (c .before .before .args .stream .now) (omega arith))

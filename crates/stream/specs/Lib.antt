@@ -1,0 +1,3 @@
+-- What the contracts of `stream` cite beside the rules.
+pub mod Answer
+pub mod Load
