@@ -1,4 +1,4 @@
--- Release times: what `JobsWhole` says, task by task, and the deadlines that follow from it. Assumes nothing.
+-- Release times: what `JobsWhole` says, task by task. Assumes nothing.
 use mathlib.Core.Path.{_≡_, refl, sym, _∙_}
 use mathlib.Core.Bool.{Bool, true, false, _&&_}
 use mathlib.Core.List.{List}
@@ -13,12 +13,11 @@ use Rattle.rules.specs.Table.{most, isTask}
 use Rattle.rules.specs.State.{Last, Never, At, timeOf}
 use Rattle.table.specs.declared.Table.{Table}
 use Rattle.table.specs.Stored.{tableOf}
-use Rattle.levels.proofs.Copies.{copy-counted}
 use Rattle.jobs.specs.declared.Job.{Job}
-use Rattle.jobs.specs.declared.Tasks.{Tasks}
-use Rattle.jobs.specs.Kept.{lastIn, jobAt, Dated, Levelled}
+use Rattle.jobs.specs.Kept.{lastIn, jobAt}
 use Rattle.jobs.proofs.Keeping.{task-asked}
-use Rattle.whole.specs.Parts.{datedBy, JobsWhole, Datable}
+use Rattle.queue.specs.Asked.{JobsWhole}
+use Rattle.whole.specs.Parts.{datedBy}
 
 -- ---- one job
 
@@ -56,21 +55,3 @@ module _ {table : Table} {jobs : List Job} {clock : ℕ} (long : length (table .
   whole-dated w k low high =
       let t : isTask (tableOf table) k ≡ true = sym (task-asked table long k) ∙ le-both (low, high) in
       known-dated (jobAt jobs k .active) (lastIn (jobAt jobs k .last)) clock (rw t at (w .known k)) (rw t at (w .past k))
-
--- ---- deadlines and levels
-
--- a table that was asked has no such task
-pub not-task : (table : Table) → length (table .tasks) ≡ most → (k : ℕ) → (leb 1 k && leb k (table .count)) ≡ false → isTask (tableOf table) k ≡ true → ⊥
-not-task table long k f t = true-false (isTask (tableOf table) k) t (sym (task-asked table long k) ∙ f)
-
-module _ {tasks : Tasks} {jobs : List Job} {clock : ℕ} (w : Datable tasks jobs clock) where
-  pub datable-dated : {k : ℕ} → isTask (tableOf (tasks .table)) k ≡ true → Dated (tasks .table) jobs k
-  datable-dated {k} t = record { tested = w .tasks-whole .table; task = t; past = omega (arith, w .jobs-whole .past k, w .ticks) }
-
-  pub datable-levelled : length (tasks .table .tasks) ≡ most → {k : ℕ} → (leb 1 k && leb k (tasks .table .count)) ≡ true → Levelled tasks jobs clock k
-  datable-levelled long {k} t =
-      record {
-        dated = datable-dated (sym (task-asked (tasks .table) long k) ∙ t);
-        copy = copy-counted (tasks .table) (tasks .rising) long (w .tasks-whole .table) (w .tasks-whole .copy);
-        high = w .ticks;
-      }

@@ -1,6 +1,5 @@
 -- Laws of the test's parts.
 pub mod Dates
-pub mod Rows
 pub mod Reading
 pub mod Queueing
 pub mod Wholeness

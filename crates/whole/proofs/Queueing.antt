@@ -31,8 +31,9 @@ use Rattle.jobs.specs.Kept.{jobAt, releasedIn, activeIn}
 use Rattle.jobs.proofs.Keeping.{task-asked}
 use Rattle.ready.specs.declared.Ready.{Ready}
 use Rattle.ready.specs.Keep.{readyIn}
+use Rattle.queue.specs.Row.{byteLevel, byteTask, tasksIn, inRow, WaitsRight, ActiveAs, RunsWhole}
 use Rattle.whole.specs.Whole.{viewIn, Whole}
-use Rattle.whole.specs.Parts.{Tested, byteLevel, byteTask, tasksIn, inRow, WaitsRight, ActiveAs, RunsWhole}
+use Rattle.whole.specs.Parts.{Tested}
 use Rattle.whole.proofs.Wholeness.{whole-state, state-whole}
 use Rattle.whole.proofs.Reading.{tasks-length, tasks-at, Read}
 

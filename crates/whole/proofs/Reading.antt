@@ -8,6 +8,7 @@ use native.Mathlib.Omega.{arith}
 use lib.ListN.{length, getD, drop, length-append, List·getD-append}
 use lib.Seq.{ext-getD, getD-at}
 use Rattle.laws.specs.Words.{In, joined}
+use Rattle.laws.proofs.Orders.{long-none}
 use Rattle.rules.specs.Table.{most}
 use Rattle.rules.specs.State.{listing}
 use Rattle.rules.specs.Listing.{pairsOf, bytesOf}
@@ -16,7 +17,7 @@ use Rattle.lists.specs.declared.Lists.{Lists}
 use Rattle.lists.specs.Links.{Numbered, Waits, Stores}
 use Rattle.lists.specs.Answers.{ListedFrom}
 use Rattle.lists.proofs.Together.{listing-few}
-use Rattle.whole.specs.Parts.{byteLevel, byteTask, tasksIn}
+use Rattle.queue.specs.Row.{byteLevel, byteTask, tasksIn}
 
 -- ---- the tasks of the first n
 
@@ -139,3 +140,12 @@ listing-read {ls = ls} st before after end w =
           pair = p .pair;
           every = p .every;
         }
+
+-- ---- nobody waits
+
+module _ (ls : ℕ → List ℕ) {before after : List ℕ} {end : ℕ} (listed : ListedFrom before 0 (bytesOf ls) end after) where
+  pub none-listed : end ≡ 0 → listing ls ≡ []
+  none-listed e = long-none (listing ls) (omega (arith, listed .size, bytes-twice ls))
+
+  pub listed-none : listing ls ≡ [] → end ≡ 0
+  listed-none e = omega (arith, listed .size, bytes-twice ls, ap length e)

@@ -11,8 +11,8 @@ use Rattle.lists.proofs.Walks.{lists-held}
 use Rattle.jobs.specs.declared.Job.{Job}
 use Rattle.jobs.specs.declared.Tasks.{Tasks}
 use Rattle.ready.specs.declared.Ready.{Ready}
+use Rattle.queue.specs.Asked.{TasksWhole, JobsWhole}
 use Rattle.whole.specs.Whole.{viewIn, Whole}
-use Rattle.whole.specs.Parts.{TasksWhole, JobsWhole}
 
 module _ {tasks : Tasks} {jobs : List Job} {ready : Ready} {clock : ℕ} where
   pub whole-tasks : Whole tasks jobs ready clock → TasksWhole tasks

@@ -12,21 +12,23 @@ ghost use Prim.Native.Nat.{_≤_};
 ghost use Rattle.laws.specs.Words.{Decides};
 ghost use Rattle.rules.specs.Table.{most};
 ghost use Rattle.jobs.specs.Kept.{lastIn};
+ghost use Rattle.queue.specs.Asked.{TasksWhole, JobsWhole};
 ghost use Rattle.whole.specs.Whole.{Whole};
-ghost use Rattle.whole.specs.Parts.{TasksWhole, datedBy, JobsWhole};
+ghost use Rattle.whole.specs.Parts.{datedBy, Tested};
 use clock::LAST_TICK;
 use jobs::Job;
 use jobs::Last;
 use jobs::PLACES;
 use jobs::Tasks;
 use levels::agrees;
-use queue::queue_whole;
+use lists::Who;
+use queue::BYTES;
+use queue::active_as;
+use queue::runs_whole;
 use ready::Ready;
 use table::Table;
 use table::Verdict;
 use table::tests_to_3;
-
-mod queue; // queue_whole
 
 // "A block is whole when"
 pub fn is_whole(tasks: Tasks, jobs: [Job; PLACES], ready: Ready, clock: u64) -> bool
@@ -85,5 +87,26 @@ fn is_dated(job: Job, clock: u64) -> bool
     match last {
         Last::Never => !job.active,
         Last::At(time) => time <= clock,
+    }
+}
+
+// Whether the block is whole, where the rest has been tested: exactly the active jobs run or wait, each once, where and in the order that
+// they should.
+fn queue_whole(tasks: Tasks, jobs: [Job; PLACES], ready: Ready, clock: u64) -> bool
+    requires { ⌜ Tested tasks jobs ready clock ⌝ }
+    ensures { λ r. ⌜ Decides r (Whole tasks jobs ready clock) ⌝ }
+{
+    let running = ready.running;
+    let lists = ready.lists;
+    let mut bytes = [0u8; BYTES];
+    let end = lists.list_all(&mut bytes);
+    match running {
+        Who::Nobody => {
+            if end != 0 {
+                return false; // "nobody runs only if nobody waits"
+            }
+            active_as(tasks.table.count, jobs, [false; PLACES])
+        }
+        Who::One(first) => runs_whole(tasks, jobs, clock, first, bytes, end / 2),
     }
 }

@@ -6,7 +6,8 @@ use Rattle.laws.proofs.Arrays.{long-map}
 use Rattle.laws.proofs.Bools.{told-true, told-false}
 use Rattle.rules.specs.Table.{most}
 use Rattle.table.proofs.Tests.{few-passed}
-use Rattle.whole.specs.Parts.{TasksWhole, Tested}
+use Rattle.queue.specs.Asked.{TasksWhole}
+use Rattle.whole.specs.Parts.{Tested}
 use Rattle.whole.proofs.Wholeness.{whole-tasks, whole-jobs}
 use Rattle.whole.proofs.is_whole.Statement.{statement}
 use Rattle.whole.proofs.is_whole.Tie as tie

@@ -11,11 +11,10 @@ use Rattle.table.proofs.Tests.{few-passed}
 use Rattle.lists.specs.Answers.{whoIn, ListedFrom}
 use Rattle.lists.specs.Test.{listAt}
 use Rattle.lists.proofs.Walks.{lists-held}
-use Rattle.whole.proofs.Rows.{none-listed, listed-none}
-use Rattle.whole.proofs.Reading.{Read, listing-room, listing-read}
+use Rattle.whole.proofs.Reading.{Read, listing-room, listing-read, none-listed, listed-none}
 use Rattle.whole.proofs.Queueing.{runs-whole, whole-runs, none-whole, whole-none}
-use Rattle.whole.proofs.queue.queue_whole.Statement.{statement}
-use Rattle.whole.proofs.queue.queue_whole.Tie as tie
+use Rattle.whole.proofs.queue_whole.Statement.{statement}
+use Rattle.whole.proofs.queue_whole.Tie as tie
 
 long : (c : tie.Start) → length (c .args .tasks .table .tasks) ≡ most
 long c = search (needs, long-map)

@@ -1,4 +1,14 @@
-// Whether those who run and wait are as they should be. The table, the copy, the clock, the release times and the links have been tested.
+// Those who run and wait ("The block"): whether they are tasks of the table, each once, all active ones, in the lists of their levels, in
+// order. Inner forms of the test for a whole block: the table, its copy, the clock and the release times have been tested, and the waiting
+// jobs are read from their listing, a byte for the level and one for the task.
+//
+//     runs_whole      where a job runs
+//       in_table        the running one is a task of the table
+//       all_wait        so is each that waits; it does not run, and is in the list of its level
+//       in_order        each may stand ahead of the next
+//       active_as       exactly these are active
+//
+// Each takes a step for each waiting job or each task.
 ghost use mathlib.Core.Path.{_≡_};
 ghost use mathlib.Core.List.{_∷_};
 ghost use Prim.Native.Nat.{ℕ, _≤_};
@@ -8,8 +18,8 @@ ghost use Rattle.rules.specs.State.{MayLead};
 ghost use Rattle.table.specs.Stored.{tableOf};
 ghost use Rattle.lists.specs.Test.{none, marked};
 ghost use Rattle.jobs.specs.Kept.{releasedIn, Dated};
-ghost use Rattle.whole.specs.Whole.{Whole};
-ghost use Rattle.whole.specs.Parts.{Datable, Tested, Few, tasksIn, WaitsRight, AllWait, inRow, RowDated, InOrder, ActiveAs, RunsWhole};
+ghost use Rattle.queue.specs.Asked.{Datable};
+ghost use Rattle.queue.specs.Row.{Few, tasksIn, WaitsRight, AllWait, inRow, RowDated, InOrder, ActiveAs, RunsWhole};
 use jobs::Job;
 use jobs::PLACES;
 use jobs::Tasks;
@@ -17,39 +27,16 @@ use jobs::deadline;
 use jobs::in_table;
 use jobs::level_of;
 use jobs::time_of;
-use lists::Who;
-use ready::Ready;
 use table::Level;
 use table::MOST;
 use table::Table;
 use table::TaskNo;
 
 // Room for the listing of all tasks.
-const BYTES: usize = 2 * MOST;
+pub const BYTES: usize = 2 * MOST;
 
-// Whether the block is whole, where the rest has been tested: exactly the active jobs run or wait, each once, where and in the order that
-// they should.
-pub fn queue_whole(tasks: Tasks, jobs: [Job; PLACES], ready: Ready, clock: u64) -> bool
-    requires { ⌜ Tested tasks jobs ready clock ⌝ }
-    ensures { λ r. ⌜ Decides r (Whole tasks jobs ready clock) ⌝ }
-{
-    let running = ready.running;
-    let lists = ready.lists;
-    let mut bytes = [0u8; BYTES];
-    let end = lists.list_all(&mut bytes);
-    match running {
-        Who::Nobody => {
-            if end != 0 {
-                return false; // "nobody runs only if nobody waits"
-            }
-            active_as(tasks.table.count, jobs, [false; PLACES])
-        }
-        Who::One(first) => runs_whole(tasks, jobs, clock, first, bytes, end / 2),
-    }
-}
-
-// The same where the job of a task runs, and n jobs wait as the bytes list them.
-fn runs_whole(
+// Whether all is as it should be where the job of a task runs, and n jobs wait as the bytes list them.
+pub fn runs_whole(
     tasks: Tasks,
     jobs: [Job; PLACES],
     clock: u64,
@@ -166,7 +153,7 @@ fn marks(first: TaskNo, bytes: [u8; BYTES], n: usize) -> [bool; PLACES]
 }
 
 // Whether exactly the jobs that are marked are active.
-fn active_as(count: usize, jobs: [Job; PLACES], seen: [bool; PLACES]) -> bool
+pub fn active_as(count: usize, jobs: [Job; PLACES], seen: [bool; PLACES]) -> bool
     requires { ⌜ count ≤ most ⌝ }
     ensures { λ r. ⌜ Decides r (ActiveAs count jobs seen) ⌝ }
 {

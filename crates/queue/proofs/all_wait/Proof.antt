@@ -2,10 +2,10 @@ use Prim.Native.Nat.{_-_, _≤_}
 use native.Mathlib.Omega.{arith}
 use borrow.Author.Count.{below-more}
 use borrow.Author.Needs.{needs}
-use Rattle.whole.specs.Parts.{AllWait}
+use Rattle.queue.specs.Row.{AllWait}
 use Rattle.laws.proofs.Bools.{told-true, told-false}
-use Rattle.whole.proofs.queue.all_wait.Statement.{statement}
-use Rattle.whole.proofs.queue.all_wait.Tie as tie
+use Rattle.queue.proofs.all_wait.Statement.{statement}
+use Rattle.queue.proofs.all_wait.Tie as tie
 
 abbrev Inv-loop : tie.InvT-loop
 Inv-loop tasks jobs clock first n bytes i₀ i = (i ≤ n) × AllWait tasks jobs clock (first .0) bytes i

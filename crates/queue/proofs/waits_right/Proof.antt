@@ -5,10 +5,10 @@ use lib.ListN.{length}
 use Rattle.laws.proofs.Arrays.{long-map}
 use Rattle.rules.specs.Table.{most}
 use Rattle.jobs.specs.Kept.{Levelled}
-use Rattle.whole.proofs.Dates.{not-task, datable-levelled}
-use Rattle.whole.proofs.Rows.{place-decides}
-use Rattle.whole.proofs.queue.waits_right.Statement.{statement}
-use Rattle.whole.proofs.queue.waits_right.Tie as tie
+use Rattle.queue.proofs.Dates.{not-task, datable-levelled}
+use Rattle.queue.proofs.Rows.{place-decides}
+use Rattle.queue.proofs.waits_right.Statement.{statement}
+use Rattle.queue.proofs.waits_right.Tie as tie
 
 long : (c : tie.Start) → length (c .args .tasks .table .tasks) ≡ most
 long c = search (needs, long-map)

@@ -4,10 +4,10 @@ use native.Mathlib.Numerals.{add-one}
 use native.Mathlib.Omega.{arith}
 use borrow.Author.Count.{below-more}
 use borrow.Author.Needs.{needs}
-use Rattle.whole.specs.Parts.{inRow, InOrder}
+use Rattle.queue.specs.Row.{inRow, InOrder}
 use Rattle.laws.proofs.Bools.{told-true, told-false}
-use Rattle.whole.proofs.queue.in_order.Statement.{statement}
-use Rattle.whole.proofs.queue.in_order.Tie as tie
+use Rattle.queue.proofs.in_order.Statement.{statement}
+use Rattle.queue.proofs.in_order.Tie as tie
 
 abbrev Inv-loop : tie.InvT-loop
 Inv-loop table jobs n bytes ahead₀ i₀ ahead i = (i ≤ n) × (inRow (ahead₀ .0) bytes i ≡ ahead .0) × InOrder table jobs (ahead₀ .0) bytes i

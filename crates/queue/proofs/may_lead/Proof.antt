@@ -5,9 +5,9 @@ use lib.ListN.{length}
 use Rattle.laws.proofs.Arrays.{long-map}
 use Rattle.rules.specs.Table.{most}
 use Rattle.jobs.proofs.Keeping.{dated-task}
-use Rattle.whole.proofs.Rows.{apart-decides, equal-decides}
-use Rattle.whole.proofs.queue.may_lead.Statement.{statement}
-use Rattle.whole.proofs.queue.may_lead.Tie as tie
+use Rattle.queue.proofs.Rows.{apart-decides, equal-decides}
+use Rattle.queue.proofs.may_lead.Statement.{statement}
+use Rattle.queue.proofs.may_lead.Tie as tie
 
 long : (c : tie.Start) → length (c .args .table .tasks) ≡ most
 long c = search (needs, long-map)

@@ -1,5 +1,5 @@
 -- The running job and behind it those that wait, read from a listing's bytes. Assumes nothing.
-use mathlib.Core.Path.{_≡_, sym, ap, _∙_}
+use mathlib.Core.Path.{_≡_, sym, _∙_}
 use mathlib.Core.Bool.{Bool, true}
 use mathlib.Core.List.{List, [], _∷_}
 use Prim.Native.Nat.{ℕ, zero, suc, _+_, _≤_}
@@ -9,23 +9,20 @@ use borrow.Author.Tests.{ltb-true, leb-true, eqb-true, lt-ltb, le-leb, eq-eqb}
 use lib.Dec.{eqb, leb, ltb}
 use lib.ListN.{length, set}
 use Rattle.laws.specs.Words.{Decides}
-use Rattle.laws.proofs.Orders.{long-none}
+use Rattle.laws.proofs.Bools.{test-decides}
 use Rattle.rules.specs.Table.{most, isTask}
-use Rattle.rules.specs.State.{timeOf, deadlineOf, listing, MayLead}
-use Rattle.rules.specs.Listing.{bytesOf}
-use Rattle.rules.proofs.Listings.{bytes-twice}
+use Rattle.rules.specs.State.{timeOf, deadlineOf, MayLead}
 use Rattle.table.specs.declared.Table.{Table}
 use Rattle.table.specs.Stored.{tableOf}
-use Rattle.lists.specs.Answers.{ListedFrom}
 use Rattle.lists.specs.Test.{marked}
 use Rattle.lists.proofs.Marks.{marked-append}
 use Rattle.jobs.specs.declared.Job.{Job}
 use Rattle.jobs.specs.declared.Tasks.{Tasks}
 use Rattle.jobs.specs.Kept.{lastIn, jobAt, releasedIn, levelsAt, Dated, Levelled}
 use Rattle.jobs.proofs.Keeping.{dated-time, dated-task}
-use Rattle.whole.specs.Parts.{Datable, byteTask, tasksIn, WaitsRight, AllWait, inRow, RowDated}
-use Rattle.laws.proofs.Bools.{test-decides}
-use Rattle.whole.proofs.Dates.{datable-dated}
+use Rattle.queue.specs.Asked.{Datable}
+use Rattle.queue.specs.Row.{byteTask, tasksIn, WaitsRight, AllWait, inRow, RowDated}
+use Rattle.queue.proofs.Dates.{datable-dated}
 
 -- ---- who may stand where
 
@@ -68,12 +65,3 @@ pub marked-next : (before seen : List Bool) (bytes : List ℕ) (i : ℕ) → see
     → set seen (byteTask bytes i) true ≡ marked before (tasksIn bytes (i + 1))
 unfolding marked tasksIn
 marked-next before seen bytes i e = rw (add-one i, e) (sym (marked-append before (tasksIn bytes i) (byteTask bytes i ∷ [])))
-
--- ---- nobody waits
-
-module _ (ls : ℕ → List ℕ) {before after : List ℕ} {end : ℕ} (listed : ListedFrom before 0 (bytesOf ls) end after) where
-  pub none-listed : end ≡ 0 → listing ls ≡ []
-  none-listed e = long-none (listing ls) (omega (arith, listed .size, bytes-twice ls))
-
-  pub listed-none : listing ls ≡ [] → end ≡ 0
-  listed-none e = omega (arith, listed .size, bytes-twice ls, ap length e)

@@ -9,11 +9,11 @@ use Rattle.rules.specs.Table.{most, isTask}
 use Rattle.table.specs.Stored.{tableOf}
 use Rattle.table.proofs.Tests.{few-passed}
 use Rattle.jobs.proofs.Keeping.{task-asked}
-use Rattle.whole.specs.Parts.{AllWait, RowDated, InOrder}
-use Rattle.whole.proofs.Dates.{not-task}
-use Rattle.whole.proofs.Rows.{row-dated, row-low}
-use Rattle.whole.proofs.queue.runs_whole.Statement.{statement}
-use Rattle.whole.proofs.queue.runs_whole.Tie as tie
+use Rattle.queue.specs.Row.{AllWait, RowDated, InOrder}
+use Rattle.queue.proofs.Dates.{not-task}
+use Rattle.queue.proofs.Rows.{row-dated, row-low}
+use Rattle.queue.proofs.runs_whole.Statement.{statement}
+use Rattle.queue.proofs.runs_whole.Tie as tie
 
 long : (c : tie.Start) → length (c .args .tasks .table .tasks) ≡ most
 long c = search (needs, long-map)

@@ -3,10 +3,10 @@ use Prim.Native.Nat.{suc, _-_, _≤_}
 use native.Mathlib.Omega.{arith}
 use borrow.Author.Needs.{needs}
 use Rattle.lists.specs.Test.{marked}
-use Rattle.whole.specs.Parts.{tasksIn}
-use Rattle.whole.proofs.Rows.{marked-next}
-use Rattle.whole.proofs.queue.marks.Statement.{statement}
-use Rattle.whole.proofs.queue.marks.Tie as tie
+use Rattle.queue.specs.Row.{tasksIn}
+use Rattle.queue.proofs.Rows.{marked-next}
+use Rattle.queue.proofs.marks.Statement.{statement}
+use Rattle.queue.proofs.marks.Tie as tie
 
 abbrev Inv-loop : tie.InvT-loop
 Inv-loop n bytes seen₀ i₀ seen i = (i ≤ n) × (seen ≡ marked seen₀ (tasksIn bytes i))

@@ -6,8 +6,8 @@ use borrow.Author.Needs.{needs}
 use Rattle.lists.specs.Test.{seenAt}
 use Rattle.jobs.specs.Kept.{jobAt}
 use Rattle.laws.proofs.Bools.{flags-same, flags-differ}
-use Rattle.whole.proofs.queue.active_as.Statement.{statement}
-use Rattle.whole.proofs.queue.active_as.Tie as tie
+use Rattle.queue.proofs.active_as.Statement.{statement}
+use Rattle.queue.proofs.active_as.Tie as tie
 
 abbrev Inv-loop : tie.InvT-loop
 Inv-loop count jobs seen k₀ k-end k = (1 ≤ k) × (k ≤ count + 1) × ((j : ℕ) → j < k → 1 ≤ j → jobAt jobs j .active ≡ seenAt seen j)

@@ -1,0 +1,3 @@
+-- Laws of those who run and wait.
+pub mod Dates
+pub mod Rows
