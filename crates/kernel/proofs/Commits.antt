@@ -34,7 +34,7 @@ use Rattle.levels.proofs.Casts.{remaining-held}
 use Rattle.clock.specs.Advance.{Advanced}
 use Rattle.lists.specs.Links.{Absent, Stores}
 use Rattle.lists.specs.Answers.{whoIn, Holds}
-use Rattle.lists.specs.Test.{listAt}
+use Rattle.lists.specs.Held.{listAt}
 use Rattle.lists.proofs.Together.{in-all}
 use Rattle.lists.proofs.Walks.{lists-held}
 use Rattle.jobs.specs.declared.Last.the-variants.{At}

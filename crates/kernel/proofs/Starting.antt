@@ -24,7 +24,7 @@ use Rattle.table.proofs.Verdict.{the-type}
 use Rattle.table.proofs.Tests.{table-length, verdict-one, not-sound}
 use Rattle.levels.proofs.Copies.{laid-first}
 use Rattle.lists.specs.Answers.{whoIn}
-use Rattle.lists.specs.Test.{listAt}
+use Rattle.lists.specs.Held.{listAt}
 use Rattle.lists.proofs.Storage.{Sized}
 use Rattle.lists.proofs.Walks.{list-held}
 use Rattle.lists.proofs.Determined.{arrays-one}

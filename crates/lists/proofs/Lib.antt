@@ -12,6 +12,4 @@ pub mod Passes
 pub mod Apart
 pub mod Together
 pub mod Marks
-pub mod Seeing
-pub mod Deciding
 pub mod Results

@@ -12,10 +12,10 @@ use Rattle.lists.specs.declared.Lists.{Lists}
 use Rattle.lists.specs.declared.Popped.{Popped}
 use Rattle.lists.specs.declared.Who.{Who}
 use Rattle.lists.specs.declared.Who.the-variants as Who
-use Rattle.lists.specs.declared.test.Gone.{Gone}
 use Rattle.lists.specs.Links.{nobody, Stores}
 use Rattle.lists.specs.Answers.{whoIn, PopsFrom, Holds, ListedFrom}
-use Rattle.lists.specs.Test.{listAt, marked, Went}
+use Rattle.lists.specs.Held.{listAt}
+use Rattle.lists.specs.Marks.{marked}
 use Rattle.lists.proofs.Storage.{Sized}
 use Rattle.lists.proofs.Determined.{arrays-one}
 use Rattle.lists.proofs.Operations.{stores-empty}
@@ -67,13 +67,6 @@ module _ {s : Lists} (h : Holds s) where
       let c = p (h .lists) (h .stores) in
       let d = q (h .lists) (h .stores) in
       (c .size ∙ sym (d .size), c .buffer ∙ sym (d .buffer))
-
--- go_along
-pub gone-result : (s : Lists) (l : ℕ) (before : List Bool) (a b : Gone) → Went s l before a → Went s l before b → a ≡ b
-gone-result s l before a b p q =
-    let ok : a .ok ≡ b .ok = p .ok ∙ sym (q .ok) in
-    ap₂ (λ (t : Bool) (seen : List Bool). record { ok = t; seen = seen }) ok
-    (p .seen ∙ ap (λ (t : Bool). pick t (marked before (listAt s l)) before) ok ∙ sym (q .seen))
 
 -- arrays that store no job are zeros, and so is the map
 pub zero-lists : {s : Lists} → Sized s → Stores s (λ l. []) → s ≡ record { first = replicate (suc most) nobody; last = replicate (suc most) nobody; next = replicate (suc most) nobody; map = 0 }

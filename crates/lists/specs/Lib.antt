@@ -1,4 +1,5 @@
 -- What the contracts of `lists` cite beside the rules.
 pub mod Links
 pub mod Answers
-pub mod Test
+pub mod Held
+pub mod Marks

@@ -14,11 +14,11 @@
 //
 //      empty, push_front, push_back, pop_front, move_front, front, lowest, lowest_from      O(1)
 //      length_of, list_into                   a step for each job of the list
-//      waiting, list_all, holds_lists         a step for each level and each job
+//      waiting, list_all                      a step for each level and each job
 //
 // Contracts speak of lists of numbers: whatever lists `ls` are stored, they say what is answered and which lists are stored afterwards.
-// The fields are private, so nothing above this crate names a link or a bit. All but empty and holds_lists are inner forms: that the arrays
-// store lists, which they require, is so at first (empty), stays so, and is told of anything (holds_lists).
+// The fields are private, so nothing above this crate names a link or a bit. All but empty are inner forms: that the arrays store lists,
+// which they require, is so at first (empty), stays so, and is told of anything (crate stored).
 ghost use mathlib.Core.Path.{_≡_};
 ghost use mathlib.Core.List.{List, []};
 ghost use Prim.Native.Nat.{ℕ, suc, _-_};
@@ -33,7 +33,6 @@ use table::MOST;
 use table::TaskNo;
 
 mod walk; // length_of, waiting, list_into, list_all
-mod test; // holds_lists
 
 // A place for each task and each level, and place 0.
 pub const PLACES: usize = MOST + 1;
@@ -114,7 +113,7 @@ impl Lists {
         }
     }
 
-    // Whatever was stored: `holds_lists` tells whether it is lists.
+    // Whatever was stored: crate stored tells whether it is lists.
     pub fn of(stored: Stored) -> Lists
         ensures { λ r. ⌜ r ≡ listsOf stored ⌝ }
     {

@@ -14,7 +14,7 @@ use Rattle.rules.specs.Table.{most, isTask}
 use Rattle.rules.specs.State.{timeOf, deadlineOf, MayLead}
 use Rattle.table.specs.declared.Table.{Table}
 use Rattle.table.specs.Stored.{tableOf}
-use Rattle.lists.specs.Test.{marked}
+use Rattle.lists.specs.Marks.{marked}
 use Rattle.lists.proofs.Marks.{marked-append}
 use Rattle.jobs.specs.declared.Job.{Job}
 use Rattle.jobs.specs.declared.Tasks.{Tasks}

@@ -8,7 +8,7 @@ use Rattle.rules.specs.Table.{most, isTask}
 use Rattle.rules.specs.State.{MayLead}
 use Rattle.table.specs.declared.Table.{Table}
 use Rattle.table.specs.Stored.{tableOf}
-use Rattle.lists.specs.Test.{none, seenAt, marked}
+use Rattle.lists.specs.Marks.{none, seenAt, marked}
 use Rattle.jobs.specs.declared.Job.{Job}
 use Rattle.jobs.specs.declared.Tasks.{Tasks}
 use Rattle.jobs.specs.Kept.{jobAt, releasedIn, levelsAt, Dated}

@@ -16,7 +16,7 @@ ghost use Rattle.laws.specs.Words.{Decides};
 ghost use Rattle.rules.specs.Table.{most};
 ghost use Rattle.rules.specs.State.{MayLead};
 ghost use Rattle.table.specs.Stored.{tableOf};
-ghost use Rattle.lists.specs.Test.{none, marked};
+ghost use Rattle.lists.specs.Marks.{none, marked};
 ghost use Rattle.jobs.specs.Kept.{releasedIn, Dated};
 ghost use Rattle.queue.specs.Asked.{Datable};
 ghost use Rattle.queue.specs.Row.{Few, tasksIn, WaitsRight, AllWait, inRow, RowDated, InOrder, ActiveAs, RunsWhole};

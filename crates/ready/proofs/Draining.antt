@@ -11,7 +11,7 @@ use Rattle.table.specs.declared.Level.{Level}
 use Rattle.lists.specs.declared.Lists.{Lists}
 use Rattle.lists.specs.Links.{Stores}
 use Rattle.lists.specs.Answers.{frontMoved}
-use Rattle.lists.specs.Test.{listAt}
+use Rattle.lists.specs.Held.{listAt}
 use Rattle.lists.proofs.Few.{list-few}
 use Rattle.lists.proofs.Walks.{list-held}
 use Rattle.jobs.specs.declared.Job.{Job}

@@ -10,7 +10,7 @@ use Rattle.rules.specs.Calls.{toFront, toEnd}
 use Rattle.rules.specs.Promotion.{promoted, leavingBy}
 use Rattle.lists.specs.Links.{Absent, Stores}
 use Rattle.lists.specs.Answers.{whoIn}
-use Rattle.lists.specs.Test.{listAt}
+use Rattle.lists.specs.Held.{listAt}
 use Rattle.jobs.specs.declared.Job.{Job}
 use Rattle.jobs.specs.declared.Tasks.{Tasks}
 use Rattle.jobs.specs.Kept.{levelsAt, Levelled}

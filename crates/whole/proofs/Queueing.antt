@@ -20,7 +20,8 @@ use Rattle.table.specs.Stored.{tableOf}
 use Rattle.table.proofs.Tests.{few-passed}
 use Rattle.lists.specs.Links.{Once, Waits}
 use Rattle.lists.specs.Answers.{whoIn}
-use Rattle.lists.specs.Test.{listAt, none, seenAt, marked}
+use Rattle.lists.specs.Held.{listAt}
+use Rattle.lists.specs.Marks.{none, seenAt, marked}
 use Rattle.lists.proofs.Walks.{lists-held}
 use Rattle.lists.proofs.Apart.{once-count}
 use Rattle.lists.proofs.Together.{all-in, waits-listed, listing-once, lists-order}

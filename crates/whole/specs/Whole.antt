@@ -15,7 +15,7 @@ use Rattle.rules.specs.State.{Nobody, One, At, timeOf, State, listing, everyone
 use Rattle.table.specs.Stored.{tableOf}
 use Rattle.lists.specs.Links.{occupied}
 use Rattle.lists.specs.Answers.{whoIn, Holds}
-use Rattle.lists.specs.Test.{listAt}
+use Rattle.lists.specs.Held.{listAt}
 use Rattle.jobs.specs.declared.Job.{Job}
 use Rattle.jobs.specs.declared.Tasks.{Tasks}
 use Rattle.jobs.specs.Kept.{releasedIn, activeIn, levelsAt}

@@ -3,7 +3,7 @@
 //
 //     tasks_whole     the table passes tests 1 to 3, and the rising copy agrees with it
 //     jobs_whole      every active job has a release time, none after the clock
-//     holds_lists     (crate lists) the links and the map store lists
+//     holds_lists     (crate stored) the links and the map store lists
 //     queue_whole     those who run and wait: tasks of the table, each once, all active ones, in the lists of their levels, in order
 //
 // The last part reads the listing, as a pair of bytes for each waiting job, and so decides whether the block is whole.
@@ -26,6 +26,7 @@ use queue::BYTES;
 use queue::active_as;
 use queue::runs_whole;
 use ready::Ready;
+use stored::holds_lists;
 use table::Table;
 use table::Verdict;
 use table::tests_to_3;
@@ -45,7 +46,7 @@ pub fn is_whole(tasks: Tasks, jobs: [Job; PLACES], ready: Ready, clock: u64) -> 
         return false;
     }
     let lists = ready.lists;
-    if !lists.holds_lists() {
+    if !holds_lists(lists.stored()) {
         return false;
     }
     queue_whole(tasks, jobs, ready, clock)

@@ -3,7 +3,7 @@ use Prim.Native.Nat.{ℕ, _+_, _-_, _≤_, _<_}
 use native.Mathlib.Omega.{arith}
 use borrow.Author.Count.{below-more}
 use borrow.Author.Needs.{needs}
-use Rattle.lists.specs.Test.{seenAt}
+use Rattle.lists.specs.Marks.{seenAt}
 use Rattle.jobs.specs.Kept.{jobAt}
 use Rattle.laws.proofs.Bools.{flags-same, flags-differ}
 use Rattle.queue.proofs.active_as.Statement.{statement}

@@ -2,7 +2,7 @@ use mathlib.Core.Path.{_≡_, refl}
 use Prim.Native.Nat.{suc, _-_, _≤_}
 use native.Mathlib.Omega.{arith}
 use borrow.Author.Needs.{needs}
-use Rattle.lists.specs.Test.{marked}
+use Rattle.lists.specs.Marks.{marked}
 use Rattle.queue.specs.Row.{tasksIn}
 use Rattle.queue.proofs.Rows.{marked-next}
 use Rattle.queue.proofs.marks.Statement.{statement}

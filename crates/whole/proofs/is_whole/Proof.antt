@@ -1,11 +1,14 @@
-use mathlib.Core.Path.{_≡_}
+use mathlib.Core.Path.{_≡_, subst}
 use native.Mathlib.Omega.{arith}
 use borrow.Author.Needs.{needs}
 use lib.ListN.{length}
+use Rattle.laws.specs.Words.{Decides}
 use Rattle.laws.proofs.Arrays.{long-map}
 use Rattle.laws.proofs.Bools.{told-true, told-false}
 use Rattle.rules.specs.Table.{most}
 use Rattle.table.proofs.Tests.{few-passed}
+use Rattle.lists.specs.declared.Stored.{Stored}
+use Rattle.lists.specs.Answers.{listsOf, Holds}
 use Rattle.queue.specs.Asked.{TasksWhole}
 use Rattle.whole.specs.Parts.{Tested}
 use Rattle.whole.proofs.Wholeness.{whole-tasks, whole-jobs}
@@ -18,16 +21,20 @@ long c = search (needs, long-map)
 tasks-told : (c : tie.Else1) → TasksWhole (c .before .before .args .tasks)
 tasks-told c = told-true _ (c .before .tasks-whole .result) (c .if1 .left) (c .before .tasks-whole .ensures)
 
-tested : (c : tie.Else4) → let a = c .before .before .before .before .before .before .before .before .before .args in Tested (a .tasks) (a .jobs) (a .ready) (a .clock)
+held : (c : tie.After-holds-lists) → Decides (c .holds-lists .result) (Holds (c .before .before .before .before .before .before .before .before .before .args .ready .lists))
+held c = subst (λ (s : Stored). Decides (c .holds-lists .result) (Holds (listsOf s))) (c .before .stored .ensures) (c .holds-lists .ensures)
+
+tested : (c : tie.Else4) → let a = c .before .before .before .before .before .before .before .before .before .before .args in Tested (a .tasks) (a .jobs) (a .ready) (a .clock)
 tested c =
+    let dated = c .before .before .before .before .before in
     record {
       datable =
           record {
-            tasks-whole = tasks-told (c .before .before .before .before .before .before .before);
-            jobs-whole = told-true _ (c .before .before .before .before .jobs-whole .result) (c .before .before .before .if3 .left) (c .before .before .before .before .jobs-whole .ensures);
-            ticks = omega (arith, c .before .before .before .before .before .before .if2 .left);
+            tasks-whole = tasks-told (dated .before .before .before);
+            jobs-whole = told-true _ (dated .jobs-whole .result) (c .before .before .before .before .if3 .left) (dated .jobs-whole .ensures);
+            ticks = omega (arith, dated .before .before .if2 .left);
           };
-      links = told-true _ (c .before .holds-lists .result) (c .if4 .left) (c .before .holds-lists .ensures);
+      links = told-true _ (c .before .holds-lists .result) (c .if4 .left) (held (c .before));
     }
 
 tasks-whole-requires : tie.Need-tasks-whole-requires
@@ -45,11 +52,14 @@ jobs-whole-requires c κs = few-passed _ (long (c .before .before .before .befor
 returns-3 : tie.Need-returns-3
 returns-3 c = λ w. told-false _ (c .before .jobs-whole .result) (c .if3 .taken) (c .before .jobs-whole .ensures) (whole-jobs w)
 
+stored-requires : tie.Need-stored-requires
+stored-requires c κs = search needs
+
 holds-lists-requires : tie.Need-holds-lists-requires
 holds-lists-requires c κs = search needs
 
 returns-4 : tie.Need-returns-4
-returns-4 c = λ w. told-false _ (c .before .holds-lists .result) (c .if4 .taken) (c .before .holds-lists .ensures) (w .links)
+returns-4 c = λ w. told-false _ (c .before .holds-lists .result) (c .if4 .taken) (held (c .before)) (w .links)
 
 queue-whole-requires : tie.Need-queue-whole-requires
 queue-whole-requires c κs = tested c
@@ -66,6 +76,7 @@ is-whole-spec =
     returns-2
     jobs-whole-requires
     returns-3
+    stored-requires
     holds-lists-requires
     returns-4
     queue-whole-requires

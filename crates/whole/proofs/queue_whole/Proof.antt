@@ -9,7 +9,7 @@ use Rattle.rules.specs.Table.{most}
 use Rattle.rules.specs.Listing.{bytesOf}
 use Rattle.table.proofs.Tests.{few-passed}
 use Rattle.lists.specs.Answers.{whoIn, ListedFrom}
-use Rattle.lists.specs.Test.{listAt}
+use Rattle.lists.specs.Held.{listAt}
 use Rattle.lists.proofs.Walks.{lists-held}
 use Rattle.whole.proofs.Reading.{Read, listing-room, listing-read, none-listed, listed-none}
 use Rattle.whole.proofs.Queueing.{runs-whole, whole-runs, none-whole, whole-none}

@@ -8,16 +8,16 @@ use borrow.Author.Needs.{needs}
 use borrow.Author.Tests.{not-true, not-false}
 use Rattle.laws.proofs.Bools.{true-false}
 use Rattle.rules.specs.Table.{most}
 use Rattle.lists.specs.Links.{at}
-use Rattle.lists.specs.Test.{seenAt}
-use Rattle.lists.proofs.Lists.unlinked.Statement.{statement}
-use Rattle.lists.proofs.Lists.unlinked.Tie as tie
+use Rattle.lists.specs.Marks.{seenAt}
+use Rattle.stored.proofs.unlinked.Statement.{statement}
+use Rattle.stored.proofs.unlinked.Tie as tie
 
 abbrev Inv-loop : tie.InvT-loop
-Inv-loop self seen x₀ x = (x ≤ suc most) × ((y : ℕ) → y < x → seenAt seen y ≡ false → at (self .next) y ≡ 0)
+Inv-loop stored seen x₀ x = (x ≤ suc most) × ((y : ℕ) → y < x → seenAt seen y ≡ false → at (stored .next) y ≡ 0)
 
 abbrev μ-loop : tie.MeasureT-loop
-μ-loop self seen x₀ x = suc most - x
+μ-loop stored seen x₀ x = suc most - x
 
 loop-holds : tie.Need-loop-holds Inv-loop μ-loop
 loop-holds c = search needs

@@ -8,15 +8,15 @@ use lib.Dec.{eqb}
 use Rattle.laws.specs.Words.{digit}
 use Rattle.laws.specs.Bits.{bitAt}
 use Rattle.rules.specs.Table.{most}
 use Rattle.lists.specs.Links.{at}
-use Rattle.lists.proofs.Lists.map_true.Statement.{statement}
-use Rattle.lists.proofs.Lists.map_true.Tie as tie
+use Rattle.stored.proofs.map_true.Statement.{statement}
+use Rattle.stored.proofs.map_true.Tie as tie
 
 abbrev Inv-loop : tie.InvT-loop
-Inv-loop self k₀ k = (k ≤ most) × ((j : ℕ) → j < k → bitAt (self .map) j ≡ digit (not (eqb (at (self .first) (j + 1)) 0)))
+Inv-loop stored k₀ k = (k ≤ most) × ((j : ℕ) → j < k → bitAt (stored .map) j ≡ digit (not (eqb (at (stored .first) (j + 1)) 0)))
 
 abbrev μ-loop : tie.MeasureT-loop
-μ-loop self k₀ k = most - k
+μ-loop stored k₀ k = most - k
 
 loop-holds : tie.Need-loop-holds Inv-loop μ-loop
 loop-holds c = search needs

@@ -15,16 +15,18 @@ use Rattle.laws.proofs.Orders.{none-in}
 use Rattle.rules.specs.Table.{most}
 use Rattle.rules.specs.State.{listing}
 use Rattle.table.specs.declared.TaskNo.{TaskNo}
 use Rattle.lists.specs.declared.Lists.{Lists}
 use Rattle.lists.specs.Links.{Numbered, Waits, Stores, Once, nobody, at, front, back, occupied}
 use Rattle.lists.specs.Answers.{Holds}
-use Rattle.lists.specs.Test.{listAt, allOf, none, seenAt, marked, ListsRight, MapTrue}
+use Rattle.lists.specs.Held.{listAt, allOf}
+use Rattle.lists.specs.Marks.{none, seenAt, marked}
+use Rattle.stored.specs.Test.{ListsRight, MapTrue}
 use Rattle.lists.proofs.Few.{list-few}
 use Rattle.lists.proofs.Storage.{Sized}
 use Rattle.lists.proofs.Walks.{walk-end, walk-front, walk-occupied, walk-positive, walk-linked, lists-held}
 use Rattle.lists.proofs.Apart.{joined-once, once-each, apart-each}
 use Rattle.lists.proofs.Together.{in-all, all-in}
 use Rattle.lists.proofs.Marks.{seen-none, marked-only, marked-in, Unseen, fresh-once, once-fresh}
 
 past-end : (a : List TaskNo) (k : ℕ) → length a ≡ suc most → most < k → at a k ≡ 0
 past-end a k n h = ap (λ (u : TaskNo). u .0) (List·getD-eq-default a nobody (omega arith))

@@ -14,12 +14,14 @@ use Rattle.laws.proofs.Bools.{true-false, both-true, decides-same}
 use Rattle.laws.proofs.Counts.{count-le}
 use Rattle.rules.specs.Table.{most}
 use Rattle.rules.specs.State.{listing}
 use Rattle.lists.specs.declared.Lists.{Lists}
-use Rattle.lists.specs.declared.test.Gone.{Gone}
+use Rattle.stored.specs.declared.Gone.{Gone}
 use Rattle.lists.specs.Links.{at, back}
-use Rattle.lists.specs.Test.{walk, listAt, allOf, none, seenAt, marked, fresh, Went, Unlinked, ListsRight}
+use Rattle.lists.specs.Held.{walk, listAt, allOf}
+use Rattle.lists.specs.Marks.{none, seenAt, marked, fresh}
+use Rattle.stored.specs.Test.{Went, Unlinked, ListsRight}
 use Rattle.lists.proofs.Walks.{walk-end, walk-on}
 use Rattle.lists.proofs.Marks.{unseen-falls, marked-append, fresh-append}
 
 -- ---- along the list of level l: x is the next, and the walk from there is left
 

@@ -4,13 +4,14 @@ use borrow.Author.Needs.{needs}
 use borrow.Author.Tests.{not-true, not-false}
 use Rattle.laws.proofs.Arrays.{long-map}
 use Rattle.laws.proofs.Bools.{decides-same}
+use Rattle.lists.specs.Answers.{listsOf}
 use Rattle.lists.proofs.Storage.{Sized}
-use Rattle.lists.proofs.Deciding.{tests-hold, holds-first, holds-last, holds-map, holds-listed}
-use Rattle.lists.proofs.Lists.holds_lists.Statement.{statement}
-use Rattle.lists.proofs.Lists.holds_lists.Tie as tie
+use Rattle.stored.proofs.Deciding.{tests-hold, holds-first, holds-last, holds-map, holds-listed}
+use Rattle.stored.proofs.holds_lists.Statement.{statement}
+use Rattle.stored.proofs.holds_lists.Tie as tie
 
 -- from what is known where the function begins
-sized : (a : tie.Start) → Sized (a .args .t1)
+sized : (a : tie.Start) → Sized (listsOf (a .args .t1))
 sized a = search (needs, long-map)
 
 element-copy-out-first : tie.Need-element-copy-out-first

@@ -1,21 +1,22 @@
 use mathlib.Core.Bool.{not}
 use borrow.Author.Needs.{needs}
 use Rattle.laws.specs.Words.{count}
-use Rattle.lists.proofs.Seeing.{Going, going-starts, going-ends, going-misses, going-strays, going-meets, going-falls, going-turns}
-use Rattle.lists.proofs.Lists.go_along.Statement.{statement}
-use Rattle.lists.proofs.Lists.go_along.Tie as tie
+use Rattle.lists.specs.Answers.{listsOf}
+use Rattle.stored.proofs.Seeing.{Going, going-starts, going-ends, going-misses, going-strays, going-meets, going-falls, going-turns}
+use Rattle.stored.proofs.go_along.Statement.{statement}
+use Rattle.stored.proofs.go_along.Tie as tie
 
 abbrev Inv-loop : tie.InvT-loop
-Inv-loop l before self seen₀ passed₀ x₀ seen passed x = Going self l before seen passed (x .0)
+Inv-loop l before stored seen₀ passed₀ x₀ seen passed x = Going (listsOf stored) l before seen passed (x .0)
 
 abbrev μ-loop : tie.MeasureT-loop
-μ-loop l before self seen₀ passed₀ x₀ seen passed x = count not seen
+μ-loop l before stored seen₀ passed₀ x₀ seen passed x = count not seen
 
 element-copy-out-x : tie.Need-element-copy-out-x Inv-loop μ-loop
 element-copy-out-x c = search needs
 
 loop-holds : tie.Need-loop-holds Inv-loop μ-loop
-loop-holds c = going-starts (c .before .args .t1) (c .before .args .l) (c .before .args .before) (search needs)
+loop-holds c = going-starts (listsOf (c .before .args .t1)) (c .before .args .l) (c .before .args .before) (search needs)
 
 cast-n : tie.Need-cast-n Inv-loop μ-loop
 cast-n c = search needs

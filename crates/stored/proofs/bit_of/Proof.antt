@@ -1,6 +1,6 @@
 use borrow.Author.Tests.{eq-eqb, ne-eqb}
-use Rattle.lists.proofs.test.bit_of.Statement.{statement}
-use Rattle.lists.proofs.test.bit_of.Tie as tie
+use Rattle.stored.proofs.bit_of.Statement.{statement}
+use Rattle.stored.proofs.bit_of.Tie as tie
 
 returns : tie.Need-returns
 returns c = rw (eq-eqb _ _ (c .if1 .taken))

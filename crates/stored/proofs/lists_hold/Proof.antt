@@ -2,18 +2,19 @@ use Prim.Native.Nat.{suc, _-_}
 use borrow.Author.Needs.{needs}
 use borrow.Author.Tests.{not-true, not-false}
 use Rattle.rules.specs.Table.{most}
-use Rattle.lists.proofs.Seeing.{Seeing, seeing-starts, seeing-ends, seeing-refutes, seeing-turns}
-use Rattle.lists.proofs.Lists.lists_hold.Statement.{statement}
-use Rattle.lists.proofs.Lists.lists_hold.Tie as tie
+use Rattle.lists.specs.Answers.{listsOf}
+use Rattle.stored.proofs.Seeing.{Seeing, seeing-starts, seeing-ends, seeing-refutes, seeing-turns}
+use Rattle.stored.proofs.lists_hold.Statement.{statement}
+use Rattle.stored.proofs.lists_hold.Tie as tie
 
 abbrev Inv-loop : tie.InvT-loop
-Inv-loop self seen₀ l₀ seen l = Seeing self l seen
+Inv-loop stored seen₀ l₀ seen l = Seeing (listsOf stored) l seen
 
 abbrev μ-loop : tie.MeasureT-loop
-μ-loop self seen₀ l₀ seen l = suc most - l
+μ-loop stored seen₀ l₀ seen l = suc most - l
 
 loop-holds : tie.Need-loop-holds Inv-loop μ-loop
-loop-holds c = seeing-starts (c .args .self)
+loop-holds c = seeing-starts (listsOf (c .args .stored))
 
 go-along-requires : tie.Need-go-along-requires Inv-loop μ-loop
 go-along-requires c κs = search needs

@@ -1,0 +1,2 @@
+-- What the contracts of `stored` cite beside the rules.
+pub mod Test
