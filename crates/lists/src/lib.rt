@@ -17,8 +17,8 @@
 //      waiting, list_all                      a step for each level and each job
 //
 // Contracts speak of lists of numbers: whatever lists `ls` are stored, they say what is answered and which lists are stored afterwards.
-// The fields are private, so nothing above this crate names a link or a bit. All but empty are inner forms: that the arrays store lists,
-// which they require, is so at first (empty), stays so, and is told of anything (crate stored).
+// The fields are private, so nothing above this crate names a link or a bit. All but empty, stored and of are inner forms: that the arrays
+// store lists, which they require, is so at first (empty), stays so, and is told of anything (crate stored).
 ghost use mathlib.Core.Path.{_≡_};
 ghost use mathlib.Core.List.{List, []};
 ghost use Prim.Native.Nat.{ℕ, suc, _-_};

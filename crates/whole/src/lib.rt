@@ -4,7 +4,8 @@
 //     tasks_whole     the table passes tests 1 to 3, and the rising copy agrees with it
 //     jobs_whole      every active job has a release time, none after the clock
 //     holds_lists     (crate stored) the links and the map store lists
-//     queue_whole     those who run and wait: tasks of the table, each once, all active ones, in the lists of their levels, in order
+//     queue_whole     (over crate queue) those who run and wait: tasks of the table, each once, all active ones, in the lists of their
+//                     levels, in order
 //
 // The last part reads the listing, as a pair of bytes for each waiting job, and so decides whether the block is whole.
 ghost use mathlib.Core.Path.{_≡_};
