@@ -16,7 +16,7 @@ use Rattle.rules.specs.Numbers as Numbers
 use Rattle.rules.specs.Table.{verdictOf}
 use Rattle.rules.specs.Calls.{Call}
 use Rattle.rules.specs.Lines.{taskIn}
-use Rattle.rules.specs.Records.{itemsOf, tasksIn, streamOf, runnerTests}
+use Rattle.rules.specs.Records.{streamOf, runnerTests, tasksRead}
 use Rattle.rules.proofs.Runner.{runner-refused, runner-table}
 use Rattle.table.specs.declared.Table.{Table}
 use Rattle.table.specs.Stored.{tableOf, verdictIn}
@@ -39,7 +39,7 @@ use Rattle.kernel.specs.Start.{Starts}
 use Rattle.kernel.specs.Asks.{listedIn, GivesListing}
 use Rattle.kernel.proofs.asks.Listed.{the-type}
 use Rattle.image.specs.Bytes.{size, bytesOf, blockIn}
-use Rattle.export.specs.Door.{kindOf, ticksOf, Answers, Tells, Begins, numberBy, Lists, Judges}
+use Rattle.export.specs.Door.{kindOf, ticksOf, Answers, Tells, TellsStart, numberBy, TellsListing, TellsWhole}
 
 -- ---- what a call gave back, stored
 
@@ -65,27 +65,27 @@ module _ (c : Call) (bytes answer : List ℕ) where
 -- ---- start
 
 module _ (s : List ℕ) (reading : ℕ) (bytes : List ℕ) where
-  pub begins-none : (length bytes ≡ size → ⊥) → Begins s reading bytes 15 bytes
+  pub begins-none : (length bytes ≡ size → ⊥) → TellsStart s reading bytes 15 bytes
   begins-none n = rw (ne-eqb (length bytes) size n) (refl, refl)
 
   module _ (h : length bytes ≡ size) where
-    refuses : (v : Verdict) (q : Numbers.Refusal) → v ≡ Failed q → firstOf (runnerTests s) ≡ Failed q → {a b : ℕ} → a ≡ numberIn v → b ≡ givenWith v → Begins s reading bytes (a + 256 * b) bytes
+    refuses : (v : Verdict) (q : Numbers.Refusal) → v ≡ Failed q → firstOf (runnerTests s) ≡ Failed q → {a b : ℕ} → a ≡ numberIn v → b ≡ givenWith v → TellsStart s reading bytes (a + 256 * b) bytes
     refuses v q e f m n =
         rw (eq-eqb (length bytes) size h, f) (ap₂ (λ (x y : ℕ). x + 256 * y) (m ∙ ap numberIn e) (n ∙ ap givenWith e), refl)
 
     -- a stream that is not readable
-    pub begins-unreadable : (v : Verdict) (q : Numbers.Refusal) → v ≡ Failed q → v ≡ streamOf s → {a b : ℕ} → a ≡ numberIn v → b ≡ givenWith v → Begins s reading bytes (a + 256 * b) bytes
+    pub begins-unreadable : (v : Verdict) (q : Numbers.Refusal) → v ≡ Failed q → v ≡ streamOf s → {a b : ℕ} → a ≡ numberIn v → b ≡ givenWith v → TellsStart s reading bytes (a + 256 * b) bytes
     begins-unreadable v q e f = refuses v q e (runner-refused s q (sym f ∙ e))
 
     -- one that is, from what start said of its table
-    module _ (readable : streamOf s ≡ Passed) (stored : Table) (is : stored ≡ tableIn (tasksIn (itemsOf s))) (started : Started) (st : Starts stored reading started) where
+    module _ (readable : streamOf s ≡ Passed) (stored : Table) (is : stored ≡ tableIn (tasksRead s)) (started : Started) (st : Starts stored reading started) where
       found : firstOf (runnerTests s) ≡ verdictIn (started .verdict)
-      found = runner-table s readable ∙ sym (st .verdict ∙ ap (λ (t : Table). verdictOf (tableOf t)) is ∙ table-verdict (tasksIn (itemsOf s)))
+      found = runner-table s readable ∙ sym (st .verdict ∙ ap (λ (t : Table). verdictOf (tableOf t)) is ∙ table-verdict (tasksRead s))
 
-      pub begins-refused : (q : Numbers.Refusal) → verdictIn (started .verdict) ≡ Failed q → {a b : ℕ} → a ≡ numberIn (verdictIn (started .verdict)) → b ≡ givenWith (verdictIn (started .verdict)) → Begins s reading bytes (a + 256 * b) bytes
+      pub begins-refused : (q : Numbers.Refusal) → verdictIn (started .verdict) ≡ Failed q → {a b : ℕ} → a ≡ numberIn (verdictIn (started .verdict)) → b ≡ givenWith (verdictIn (started .verdict)) → TellsStart s reading bytes (a + 256 * b) bytes
       begins-refused q e = refuses (verdictIn (started .verdict)) q e (found ∙ e)
 
-      pub begins-sound : verdictIn (started .verdict) ≡ Passed → {after : List ℕ} → after ≡ written (bytesOf (started .block)) bytes → Begins s reading bytes 0 after
+      pub begins-sound : verdictIn (started .verdict) ≡ Passed → {after : List ℕ} → after ≡ written (bytesOf (started .block)) bytes → TellsStart s reading bytes 0 after
       begins-sound e w = rw (eq-eqb (length bytes) size h, found ∙ e) (refl, started, subst (λ (t : Table). Starts t reading started) is st, w)
 
 -- ---- the listing
@@ -103,26 +103,26 @@ number-refused Listed.NotWhole h after = refl
 number-refused Listed.BufferTooShort h after = refl
 
 module _ (bytes before : List ℕ) where
-  pub lists-none : (length bytes ≡ size → ⊥) → Lists bytes before 3840 before
+  pub lists-none : (length bytes ≡ size → ⊥) → TellsListing bytes before 3840 before
   lists-none n = rw (ne-eqb (length bytes) size n) (refl, refl)
 
   module _ (h : length bytes ≡ size) {b : Block} (e : b ≡ blockIn bytes) (l : Listed) (after : List ℕ) (g : GivesListing b before l after) where
-    lists : {r : ℕ} → r ≡ numberBy (listedIn l after .waiting) (listedIn l after .verdict) → Lists bytes before r after
+    lists : {r : ℕ} → r ≡ numberBy (listedIn l after .waiting) (listedIn l after .verdict) → TellsListing bytes before r after
     lists n = rw (eq-eqb (length bytes) size h) (l, subst (λ (b : Block). GivesListing b before l after) e g, n)
 
-    pub lists-waiting : {n : ℕ} → l ≡ Listed.Waiting n → Lists bytes before n after
+    pub lists-waiting : {n : ℕ} → l ≡ Listed.Waiting n → TellsListing bytes before n after
     lists-waiting w = lists (number-waiting w after)
 
-    pub lists-refused : OneOf (1 ∷ 2 ∷ []) (tagOf the-type l) → {r : ℕ} → r ≡ numberIn (listedIn l [] .verdict) → Lists bytes before (256 * r) after
+    pub lists-refused : OneOf (1 ∷ 2 ∷ []) (tagOf the-type l) → {r : ℕ} → r ≡ numberIn (listedIn l [] .verdict) → TellsListing bytes before (256 * r) after
     lists-refused o n = lists (ap (λ (k : ℕ). 256 * k) n ∙ number-refused l o after)
 
 -- ---- whether a block is whole
 
 module _ (bytes : List ℕ) where
-  pub judges-none : (length bytes ≡ size → ⊥) → Judges bytes 0
+  pub judges-none : (length bytes ≡ size → ⊥) → TellsWhole bytes 0
   judges-none n = (false, λ p. n (p .0), refl)
 
-  pub judges : length bytes ≡ size → {b : Block} → b ≡ blockIn bytes → (w : Bool) → Decides w (Whole b) → {r : ℕ} → r ≡ digit w → Judges bytes r
+  pub judges : length bytes ≡ size → {b : Block} → b ≡ blockIn bytes → (w : Bool) → Decides w (Whole b) → {r : ℕ} → r ≡ digit w → TellsWhole bytes r
   judges h {b} e w d n = (
     w,
     decides-same (Whole b) ((length bytes ≡ size) × Whole (blockIn bytes)) w (λ x. (h, subst Whole e x)) (λ p. subst Whole (sym e) (p .1)) d,

@@ -8,7 +8,7 @@ use Rattle.laws.specs.Words.{digit, written}
 use Rattle.laws.proofs.Bools.{decides-one}
 use Rattle.rules.specs.Numbers.{Verdict, Passed, Failed, firstOf}
 use Rattle.rules.specs.Calls.{Call, Answer, Accepted, Refused}
-use Rattle.rules.specs.Records.{itemsOf, tasksIn, runnerTests}
+use Rattle.rules.specs.Records.{runnerTests, tasksRead}
 use Rattle.lists.proofs.Storage.{Sized}
 use Rattle.stream.specs.Load.{tableIn}
 use Rattle.kernel.specs.declared.Called.{Called}
@@ -21,7 +21,7 @@ use Rattle.kernel.proofs.Views.{Sizes}
 use Rattle.kernel.proofs.Results.{gives-one, listing-one}
 use Rattle.kernel.proofs.Starting.{start-one}
 use Rattle.image.specs.Bytes.{size, bytesOf, blockIn}
-use Rattle.export.specs.Door.{isBlock, AnswersBy, Answers, TellsBy, Tells, BegunBy, BeginsBy, Begins, numberBy, ListsBy, Lists, Judges}
+use Rattle.export.specs.Door.{isBlock, AnswersBy, Answers, TellsBy, Tells, StartBy, TellsStartBy, TellsStart, numberBy, TellsListingBy, TellsListing, TellsWhole}
 
 -- ---- a call
 
@@ -53,42 +53,42 @@ module _ (bytes answer : List ℕ) (r : ℕ) (after answered : List ℕ) (x : �
 -- ---- start
 
 -- of the block that was started
-abbrev BegunSized : (s : List ℕ) (reading : ℕ) (bytes : List ℕ) (r : ℕ) (after : List ℕ) (v : Verdict) → BegunBy s reading bytes r after v → Type 0
+abbrev BegunSized : (s : List ℕ) (reading : ℕ) (bytes : List ℕ) (r : ℕ) (after : List ℕ) (v : Verdict) → StartBy s reading bytes r after v → Type 0
 BegunSized s reading bytes r after Passed p = Sized (p .1 .block .ready .lists)
 BegunSized s reading bytes r after (Failed q) p = Unit {0}
 
-abbrev BeginsSized : (s : List ℕ) (reading : ℕ) (bytes : List ℕ) (r : ℕ) (after : List ℕ) (w : Bool) → BeginsBy s reading bytes r after w → Type 0
+abbrev BeginsSized : (s : List ℕ) (reading : ℕ) (bytes : List ℕ) (r : ℕ) (after : List ℕ) (w : Bool) → TellsStartBy s reading bytes r after w → Type 0
 BeginsSized s reading bytes r after true p = BegunSized s reading bytes r after (firstOf (runnerTests s)) p
 BeginsSized s reading bytes r after false p = Unit {0}
 
 module _ (s : List ℕ) (reading : ℕ) (bytes : List ℕ) (r : ℕ) (after : List ℕ) (x : ℕ) (last : List ℕ) where
-  begun-one : (v : Verdict) (p : BegunBy s reading bytes r after v) (q : BegunBy s reading bytes x last v) → BegunSized s reading bytes r after v p → BegunSized s reading bytes x last v q
+  begun-one : (v : Verdict) (p : StartBy s reading bytes r after v) (q : StartBy s reading bytes x last v) → BegunSized s reading bytes r after v p → BegunSized s reading bytes x last v q
       → (x ≡ r) × (last ≡ after)
   begun-one Passed p q long wide = (
     q .0 ∙ sym (p .0),
-    q .3 ∙ ap (λ (y : Started). written (bytesOf (y .block)) bytes) (start-one (tableIn (tasksIn (itemsOf s))) reading (q .1) (p .1) wide long (q .2) (p .2)) ∙ sym (p .3),
+    q .3 ∙ ap (λ (y : Started). written (bytesOf (y .block)) bytes) (start-one (tableIn (tasksRead s)) reading (q .1) (p .1) wide long (q .2) (p .2)) ∙ sym (p .3),
   )
   begun-one (Failed k) p q long wide = (q .0 ∙ sym (p .0), q .1 ∙ sym (p .1))
 
-  pub begins-one : (p : Begins s reading bytes r after) (q : Begins s reading bytes x last) → BeginsSized s reading bytes r after (isBlock bytes) p → BeginsSized s reading bytes x last (isBlock bytes) q
+  pub begins-one : (p : TellsStart s reading bytes r after) (q : TellsStart s reading bytes x last) → BeginsSized s reading bytes r after (isBlock bytes) p → BeginsSized s reading bytes x last (isBlock bytes) q
       → (x ≡ r) × (last ≡ after)
   begins-one = go (isBlock bytes)
     where
-      go : (w : Bool) (p : BeginsBy s reading bytes r after w) (q : BeginsBy s reading bytes x last w) → BeginsSized s reading bytes r after w p → BeginsSized s reading bytes x last w q
+      go : (w : Bool) (p : TellsStartBy s reading bytes r after w) (q : TellsStartBy s reading bytes x last w) → BeginsSized s reading bytes r after w p → BeginsSized s reading bytes x last w q
           → (x ≡ r) × (last ≡ after)
       go true p q long wide = begun-one (firstOf (runnerTests s)) p q long wide
       go false p q long wide = (q .0 ∙ sym (p .0), q .1 ∙ sym (p .1))
 
 -- ---- the listing, and whether a block is whole
 
-pub lists-one : (bytes before : List ℕ) (r : ℕ) (after : List ℕ) (x : ℕ) (last : List ℕ) → Lists bytes before r after → Lists bytes before x last → (x ≡ r) × (last ≡ after)
+pub lists-one : (bytes before : List ℕ) (r : ℕ) (after : List ℕ) (x : ℕ) (last : List ℕ) → TellsListing bytes before r after → TellsListing bytes before x last → (x ≡ r) × (last ≡ after)
 lists-one bytes before r after x last = go (isBlock bytes)
   where
-    go : (w : Bool) → ListsBy bytes before r after w → ListsBy bytes before x last w → (x ≡ r) × (last ≡ after)
+    go : (w : Bool) → TellsListingBy bytes before r after w → TellsListingBy bytes before x last w → (x ≡ r) × (last ≡ after)
     go true p q =
         let same = listing-one (blockIn bytes) before (p .0) (q .0) after last (p .1) (q .1) in
         (q .2 ∙ ap₂ (λ (l : Listed) (buffer : List ℕ). numberBy (listedIn l buffer .waiting) (listedIn l buffer .verdict)) (same .0) (same .1) ∙ sym (p .2), same .1)
     go false p q = (q .0 ∙ sym (p .0), q .1 ∙ sym (p .1))
 
-pub judges-one : (bytes : List ℕ) (r x : ℕ) → Judges bytes r → Judges bytes x → x ≡ r
+pub judges-one : (bytes : List ℕ) (r x : ℕ) → TellsWhole bytes r → TellsWhole bytes x → x ≡ r
 judges-one bytes r x p q = q .2 ∙ ap digit (decides-one ((length bytes ≡ size) × Whole (blockIn bytes)) (q .0) (p .0) (q .1) (p .1)) ∙ sym (p .2)

@@ -10,7 +10,7 @@ use Rattle.laws.specs.Words.{Decides, digit, written}
 use Rattle.rules.specs.Numbers.{NotWhole, numberOf, valueOf, given, Verdict, Passed, Failed, firstOf}
 use Rattle.rules.specs.Calls.{Call, Margin, None, Ticks, Answer, Accepted, Refused}
 use Rattle.rules.specs.Lines.{taskIn}
-use Rattle.rules.specs.Records.{itemsOf, tasksIn, runnerTests}
+use Rattle.rules.specs.Records.{tasksRead, runnerTests}
 use Rattle.kernel.specs.declared.Called.{Called}
 use Rattle.kernel.specs.declared.start.Started.{Started}
 use Rattle.kernel.specs.declared.asks.Listed.{Listed}
@@ -27,8 +27,8 @@ abbrev pub isBlock : List ℕ → Bool
 isBlock bytes = eqb (length bytes) size
 
 -- what is asked of bytes that a block is stored into
-abbrev pub Stores : List ℕ → Type 0
-Stores bytes = length bytes ≡ size
+abbrev pub BlockSized : List ℕ → Type 0
+BlockSized bytes = length bytes ≡ size
 
 -- ---- a call
 
@@ -62,18 +62,18 @@ Tells c bytes answer r after answered = TellsBy c bytes answer r after answered 
 
 -- ---- start
 
-abbrev pub BegunBy : List ℕ → ℕ → List ℕ → ℕ → List ℕ → Verdict → Type 0
-BegunBy s reading bytes r after Passed =
-    (r ≡ 0) × (started : Started) × Start.Starts (tableIn (tasksIn (itemsOf s))) reading started × (after ≡ written (bytesOf (started .block)) bytes)
-BegunBy s reading bytes r after (Failed q) = (r ≡ numberOf q + 256 * given (valueOf q)) × (after ≡ bytes)
+abbrev pub StartBy : List ℕ → ℕ → List ℕ → ℕ → List ℕ → Verdict → Type 0
+StartBy s reading bytes r after Passed =
+    (r ≡ 0) × (started : Started) × Start.Starts (tableIn (tasksRead s)) reading started × (after ≡ written (bytesOf (started .block)) bytes)
+StartBy s reading bytes r after (Failed q) = (r ≡ numberOf q + 256 * given (valueOf q)) × (after ≡ bytes)
 
-abbrev pub BeginsBy : List ℕ → ℕ → List ℕ → ℕ → List ℕ → Bool → Type 0
-BeginsBy s reading bytes r after true = BegunBy s reading bytes r after (firstOf (runnerTests s))
-BeginsBy s reading bytes r after false = (r ≡ numberOf NotWhole) × (after ≡ bytes)
+abbrev pub TellsStartBy : List ℕ → ℕ → List ℕ → ℕ → List ℕ → Bool → Type 0
+TellsStartBy s reading bytes r after true = StartBy s reading bytes r after (firstOf (runnerTests s))
+TellsStartBy s reading bytes r after false = (r ≡ numberOf NotWhole) × (after ≡ bytes)
 
 -- the block that the stream's table starts, where stream and table pass the runner's tests
-abbrev pub Begins : List ℕ → ℕ → List ℕ → ℕ → List ℕ → Type 0
-Begins s reading bytes r after = BeginsBy s reading bytes r after (isBlock bytes)
+abbrev pub TellsStart : List ℕ → ℕ → List ℕ → ℕ → List ℕ → Type 0
+TellsStart s reading bytes r after = TellsStartBy s reading bytes r after (isBlock bytes)
 
 -- ---- the listing, and whether a block is whole
 
@@ -82,14 +82,14 @@ abbrev pub numberBy : ℕ → Verdict → ℕ
 numberBy n Passed = n
 numberBy n (Failed q) = 256 * numberOf q
 
-abbrev pub ListsBy : List ℕ → List ℕ → ℕ → List ℕ → Bool → Type 0
-ListsBy bytes before r after true =
+abbrev pub TellsListingBy : List ℕ → List ℕ → ℕ → List ℕ → Bool → Type 0
+TellsListingBy bytes before r after true =
     (l : Listed) × Asks.GivesListing (blockIn bytes) before l after × (r ≡ numberBy (Asks.listedIn l after .waiting) (Asks.listedIn l after .verdict))
-ListsBy bytes before r after false = (r ≡ 256 * numberOf NotWhole) × (after ≡ before)
+TellsListingBy bytes before r after false = (r ≡ 256 * numberOf NotWhole) × (after ≡ before)
 
-abbrev pub Lists : List ℕ → List ℕ → ℕ → List ℕ → Type 0
-Lists bytes before r after = ListsBy bytes before r after (isBlock bytes)
+abbrev pub TellsListing : List ℕ → List ℕ → ℕ → List ℕ → Type 0
+TellsListing bytes before r after = TellsListingBy bytes before r after (isBlock bytes)
 
 -- 1 where the bytes are those of a whole block
-abbrev pub Judges : List ℕ → ℕ → Type 0
-Judges bytes r = (w : Bool) × Decides w ((length bytes ≡ size) × Whole (blockIn bytes)) × (r ≡ digit w)
+abbrev pub TellsWhole : List ℕ → ℕ → Type 0
+TellsWhole bytes r = (w : Bool) × Decides w ((length bytes ≡ size) × Whole (blockIn bytes)) × (r ≡ digit w)

@@ -12,7 +12,7 @@ ghost use mathlib.Core.Path.{_≡_};
 ghost use Rattle.rules.specs.Calls.{Release, Done, Clock};
 ghost use Rattle.kernel.specs.Answers.{marginIn};
 ghost use Rattle.run.specs.Run.{Runs};
-ghost use Rattle.export.specs.Door.{kindOf, ticksOf, Stores, Answers, Begins, Lists, Tells, Judges};
+ghost use Rattle.export.specs.Door.{kindOf, ticksOf, BlockSized, Answers, TellsStart, TellsListing, Tells, TellsWhole};
 use image::BYTES;
 use image::load;
 use image::save;
@@ -40,7 +40,7 @@ pub extern "C" fn meter_run(stream: &[u8], out: &mut [u8]) -> usize
 // 0; or the number of a refusal, and 256 times the task or offset with it: 14, 12 and 13 of the stream, 1 to 4 of its table.
 #[no_mangle]
 pub extern "C" fn meter_start(stream: &[u8], reading: u32, block: &mut [u8]) -> usize
-    ensures { λ r. ⌜ Begins (now (stream .entry)) reading (now (block .entry)) r (now (block .exit)) ⌝ }
+    ensures { λ r. ⌜ TellsStart (now (stream .entry)) reading (now (block .entry)) r (now (block .exit)) ⌝ }
 {
     if block.len() != BYTES {
         return 15;
@@ -93,7 +93,7 @@ fn ticks_of(margin: Margin) -> u64
 // The number of what a call gave back. Where it was accepted, the block is stored, and the answer: who runs (0 nobody), moves, the margin's
 // kind and its ticks.
 fn stored(called: Called, block: &mut [u8], answer: &mut [u64; 4]) -> u8
-    requires { ⌜ Stores (now block) ⌝ }
+    requires { ⌜ BlockSized (now block) ⌝ }
     ensures { λ r. ⌜ Answers called (now (block .entry)) (now (answer .entry)) r (now (block .exit)) (now (answer .exit)) ⌝ }
 {
     let given = called.answer;
@@ -159,7 +159,7 @@ pub extern "C" fn meter_clock(block: &mut [u8], reading: u32, answer: &mut [u64;
 // The number waiting; or 256 times the number of the refusal.
 #[no_mangle]
 pub extern "C" fn meter_listing(block: &[u8], buffer: &mut [u8]) -> usize
-    ensures { λ r. ⌜ Lists (now (block .entry)) (now (buffer .entry)) r (now (buffer .exit)) ⌝ }
+    ensures { λ r. ⌜ TellsListing (now (block .entry)) (now (buffer .entry)) r (now (buffer .exit)) ⌝ }
 {
     if block.len() != BYTES {
         return 256 * 15;
@@ -174,7 +174,7 @@ pub extern "C" fn meter_listing(block: &[u8], buffer: &mut [u8]) -> usize
 // 1 where the block is whole, else 0.
 #[no_mangle]
 pub extern "C" fn meter_whole(block: &[u8]) -> u8
-    ensures { λ r. ⌜ Judges (now (block .entry)) r ⌝ }
+    ensures { λ r. ⌜ TellsWhole (now (block .entry)) r ⌝ }
 {
     if block.len() != BYTES {
         return 0;

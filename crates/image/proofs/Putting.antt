@@ -9,7 +9,7 @@ use lib.ListN.{length, getD, take, set}
 use lib.Seq.{take-suc, take-all}
 use mir.Val.{boolByte}
 use Rattle.laws.specs.Words.{digit, Puts}
-use Rattle.laws.proofs.Buffers.{Filling, filling-turn, puts-then, puts-to, puts-as}
+use Rattle.laws.proofs.Buffers.{Filling, filling-turn, filling-puts, puts-then, puts-to, puts-as}
 use Rattle.image.specs.Bytes.{little, allBytes}
 
 -- a bool's byte
@@ -48,7 +48,7 @@ module _ {before : List ℕ} (place size n : ℕ) where
     unfolding little
     number-put e =
         let none : size - i ≡ 0 = omega arith in
-        record { size = ap (λ (k : ℕ). place + k) (sym (little-length size n)); buffer = (rw none at (now .same)) }
+        puts-to (ap (λ (k : ℕ). place + k) e) (filling-puts now (rw none))
 
 -- ---- an array, from its front on
 

@@ -11,7 +11,8 @@
 //     clock              8
 //     last reading       4
 //
-// Numbers are little-endian. save and load take a step for each byte.
+// Numbers are little-endian. save and load take a step for each byte. They are inner forms: who calls them has tested the length, as
+// export does.
 ghost use mathlib.Core.Path.{_≡_};
 ghost use Prim.Native.Nat.{_≤_};
 ghost use lib.ListN.{length};

@@ -6,18 +6,20 @@ use Prim.Native.Nat.{ℕ, _*_, _-_, _≤_, _<_}
 use native.Mathlib.Omega.{arith}
 use borrow.Author.Tests.{lt-ltb, le-ltb}
 use lib.ListN.{length}
+use Rattle.laws.specs.Words.{Puts}
+use Rattle.laws.proofs.Buffers.{puts-written}
 use Rattle.rules.specs.Numbers.{firstOf}
 use Rattle.rules.specs.Table.{most, isTask}
 use Rattle.rules.specs.Levels.{planFor, planOf}
 use Rattle.rules.specs.State.{State, waiting}
 use Rattle.rules.specs.Calls.{plannedOf}
 use Rattle.rules.specs.Listing.{bytesOf, listedOf}
+use Rattle.rules.proofs.Listings.{bytes-twice}
 use Rattle.table.specs.Stored.{tableOf}
 use Rattle.table.proofs.Tests.{nth}
 use Rattle.levels.specs.declared.Plan.{Plan}
 use Rattle.levels.proofs.Copies.{copy-counted}
 use Rattle.levels.specs.Copy.{CopyOf, held}
-use Rattle.lists.specs.Answers.{ListedFrom}
 use Rattle.lists.specs.Links.{Stores}
 use Rattle.lists.proofs.Walks.{lists-held}
 use Rattle.jobs.specs.Kept.{Dated}
@@ -39,12 +41,12 @@ module _ (s : State) (buffer : List ℕ) {n : ℕ} (counted : n ≡ length (wait
   unfolding listedOf firstOf
   listed-short h = rw (lt-ltb (length buffer) (2 * length (waiting s)) (omega arith))
 
-  pub listed-all : 2 * n ≤ length buffer → {end : ℕ} {after : List ℕ} → ListedFrom buffer 0 (bytesOf (s .ready .lists)) end after
+  pub listed-all : 2 * n ≤ length buffer → {end : ℕ} {after : List ℕ} → Puts buffer 0 (bytesOf (s .ready .lists)) end after
       → listedIn (Listed.Waiting n) after ≡ listedOf s buffer
   unfolding listedOf firstOf
   listed-all h l =
       rw (le-ltb (length buffer) (2 * length (waiting s)) (omega arith))
-      (ap₂ (λ (m : ℕ) (q : List ℕ). listedIn (Listed.Waiting m) q) counted (l .buffer))
+      (ap₂ (λ (m : ℕ) (q : List ℕ). listedIn (Listed.Waiting m) q) counted (puts-written (omega (arith, bytes-twice (s .ready .lists))) l))
 
 -- ---- a task's plan
 

@@ -4,13 +4,12 @@ use mathlib.Core.List.{List, [], _++_}
 use Prim.Native.Nat.{ℕ, suc, _+_, _-_, _≤_, _<_}
 use native.Mathlib.Omega.{arith}
 use lib.ListN.{length, length-append}
-use Rattle.laws.specs.Words.{joined}
-use Rattle.laws.proofs.Buffers.{Filling, filling-start, filling-room, filling-written, filling-size, filling-end}
+use Rattle.laws.specs.Words.{joined, Puts}
+use Rattle.laws.proofs.Buffers.{Filling, filling-start, filling-room, filling-next, filling-puts}
 use Rattle.laws.proofs.Families.{joined-turn, joined-over}
 use Rattle.rules.specs.Table.{most}
 use Rattle.rules.specs.State.{listing}
 use Rattle.rules.specs.Listing.{pairsOf, bytesOf}
-use Rattle.lists.specs.Answers.{ListedFrom}
 
 -- the lists from level l up
 abbrev from : (ℕ → List ℕ) → ℕ → List ℕ
@@ -65,12 +64,8 @@ module _ {ls : ℕ → List ℕ} {before : List ℕ} {l i : ℕ} {buffer : List 
   pub listing-room : l ≤ most → i + length (pairsOf l (ls l)) ≤ length (bytesOf ls)
   listing-room h = omega (arith, filling-room (now .filling) (pairsIn ls l) (from (pairsIn ls) (l + 1)) (split h))
 
-  pub listing-turn : {k : ℕ} {after : List ℕ} → l ≤ most → ListedFrom buffer i (pairsOf l (ls l)) k after → k ≤ length buffer → Listing ls before (l + 1) k after
-  listing-turn h w b =
-      record { low = omega arith; filling = filling-written (now .filling) (pairsIn ls l) (from (pairsIn ls) (l + 1)) (split h) (w .size) (w .buffer) b }
+  pub listing-turn : {k : ℕ} {after : List ℕ} → l ≤ most → Puts buffer i (pairsOf l (ls l)) k after → Listing ls before (l + 1) k after
+  listing-turn h w = record { low = omega arith; filling = filling-next (now .filling) (pairsIn ls l) (from (pairsIn ls) (l + 1)) (split h) w }
 
-  pub listing-size : most < l → i ≡ length (bytesOf ls)
-  listing-size h = omega (arith, filling-size (now .filling) (nothing-left h))
-
-  pub listing-end : most < l → i ≤ length before → ListedFrom before 0 (bytesOf ls) i buffer
-  listing-end h b = record { size = filling-size (now .filling) (nothing-left h); buffer = filling-end (now .filling) (nothing-left h) b }
+  pub listing-end : most < l → Puts before 0 (bytesOf ls) i buffer
+  listing-end h = filling-puts (now .filling) (nothing-left h)

@@ -6,13 +6,12 @@ use Prim.Native.Nat.{ℕ, _+_, _≤_, _<_}
 use native.Mathlib.Omega.{arith}
 use native.Mathlib.Numerals.{add-one}
 use lib.ListN.{length, set}
-use Rattle.laws.specs.Words.{In, behind}
-use Rattle.laws.proofs.Buffers.{Filling, filling-start, filling-room, filling-turn, filling-size, filling-end}
+use Rattle.laws.specs.Words.{In, behind, Puts}
+use Rattle.laws.proofs.Buffers.{Filling, filling-start, filling-room, filling-turn, filling-puts}
 use Rattle.rules.specs.Table.{most}
 use Rattle.rules.specs.Listing.{pairsOf}
 use Rattle.lists.specs.declared.Lists.{Lists}
 use Rattle.lists.specs.Links.{Numbered, at, front, Linked, Stores}
-use Rattle.lists.specs.Answers.{ListedFrom}
 use Rattle.lists.proofs.Links.{front-empty}
 
 -- ---- the walk
@@ -113,8 +112,5 @@ module _ {next : ℕ → ℕ} {l : ℕ} {all : List ℕ} {place : ℕ} {before :
   nothing-left : x ≡ 0 → pairsOf l (now .left) ≡ []
   nothing-left e = pairs-none l (now .left) (rest-empty (now .rest) e)
 
-  pub writing-size : x ≡ 0 → i ≡ place + length (pairsOf l all)
-  writing-size e = filling-size (now .filling) (nothing-left e)
-
-  pub writing-end : x ≡ 0 → i ≤ length before → ListedFrom before place (pairsOf l all) i buffer
-  writing-end e h = record { size = writing-size e; buffer = filling-end (now .filling) (nothing-left e) h }
+  pub writing-end : x ≡ 0 → Puts before place (pairsOf l all) i buffer
+  writing-end e = filling-puts (now .filling) (nothing-left e)

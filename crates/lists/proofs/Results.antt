@@ -1,11 +1,11 @@
 -- Two results that a contract allows are equal, where the contract speaks of any lists that are stored, or of marks. Assumes nothing.
 use mathlib.Core.Path.{_≡_, refl, sym, ap, ap₂, _∙_}
-use mathlib.Core.Bool.{Bool}
 use mathlib.Core.List.{List, []}
 use Prim.Native.Nat.{ℕ, suc}
 use native.Mathlib.Omega.{arith}
 use lib.ListN.{replicate, length-replicate}
-use Rattle.laws.specs.Words.{pick}
+use Rattle.laws.specs.Words.{Puts}
+use Rattle.laws.proofs.Buffers.{puts-one}
 use Rattle.rules.specs.Table.{most}
 use Rattle.rules.specs.State.{Running, Nobody, One}
 use Rattle.lists.specs.declared.Lists.{Lists}
@@ -13,9 +13,7 @@ use Rattle.lists.specs.declared.Popped.{Popped}
 use Rattle.lists.specs.declared.Who.{Who}
 use Rattle.lists.specs.declared.Who.the-variants as Who
 use Rattle.lists.specs.Links.{nobody, Stores}
-use Rattle.lists.specs.Answers.{whoIn, PopsFrom, Holds, ListedFrom}
-use Rattle.lists.specs.Held.{listAt}
-use Rattle.lists.specs.Marks.{marked}
+use Rattle.lists.specs.Answers.{whoIn, PopsFrom, Holds}
 use Rattle.lists.proofs.Storage.{Sized}
 use Rattle.lists.proofs.Determined.{arrays-one}
 use Rattle.lists.proofs.Operations.{stores-empty}
@@ -61,12 +59,9 @@ module _ {s : Lists} (h : Holds s) where
 
   -- list_into, list_all: the place behind, and every byte of the buffer
   pub listed-result : (f : (ℕ → List ℕ) → List ℕ) (before : List ℕ) (place a b : ℕ) (x y : List ℕ)
-      → ((ls : ℕ → List ℕ) → Stores s ls → ListedFrom before place (f ls) a x) → ((ls : ℕ → List ℕ) → Stores s ls → ListedFrom before place (f ls) b y)
+      → ((ls : ℕ → List ℕ) → Stores s ls → Puts before place (f ls) a x) → ((ls : ℕ → List ℕ) → Stores s ls → Puts before place (f ls) b y)
       → (a ≡ b) × (x ≡ y)
-  listed-result f before place a b x y p q =
-      let c = p (h .lists) (h .stores) in
-      let d = q (h .lists) (h .stores) in
-      (c .size ∙ sym (d .size), c .buffer ∙ sym (d .buffer))
+  listed-result f before place a b x y p q = let e = puts-one (q (h .lists) (h .stores)) (p (h .lists) (h .stores)) in (e .1, e .0)
 
 -- arrays that store no job are zeros, and so is the map
 pub zero-lists : {s : Lists} → Sized s → Stores s (λ l. []) → s ≡ record { first = replicate (suc most) nobody; last = replicate (suc most) nobody; next = replicate (suc most) nobody; map = 0 }

@@ -1,9 +1,9 @@
 -- What the operations ask and answer, in lists.
 use Prim.Native.Nat.{ℕ, zero, suc, _+_, _≤_}
 use mathlib.Core.Path.{_≡_}
-use mathlib.Core.List.{List, [], _∷_, _++_}
-use lib.ListN.{length, take, drop}
-use Rattle.laws.specs.Words.{behind, put, written}
+use mathlib.Core.List.{List, [], _∷_}
+use lib.ListN.{length}
+use Rattle.laws.specs.Words.{behind, put}
 use Rattle.rules.specs.State.{Running, Nobody, One}
 use Rattle.rules.specs.Calls.{toEnd, frontOf}
 use Rattle.rules.specs.Listing.{pairsOf, bytesOf}
@@ -78,10 +78,3 @@ pub record RoomForAll (s : Lists) (n : ℕ) : Type 0 where
   pub lists : ℕ → List ℕ
   pub stores : Stores s lists
   pub room : length (bytesOf lists) ≤ n
-
--- ---- lent buffers
-
--- the bytes stand in the buffer from `place` up to `end`, and all others are as they were
-pub record ListedFrom (before : List ℕ) (place : ℕ) (bytes : List ℕ) (end : ℕ) (after : List ℕ) : Type 0 where
-  pub size : end ≡ place + length bytes
-  pub buffer : after ≡ take place before ++ written bytes (drop place before)

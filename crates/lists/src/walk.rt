@@ -3,10 +3,11 @@ ghost use mathlib.Core.Path.{_≡_};
 ghost use mathlib.Core.List.{List};
 ghost use Prim.Native.Nat.{ℕ};
 ghost use lib.ListN.{length};
+ghost use Rattle.laws.specs.Words.{Puts};
 ghost use Rattle.rules.specs.State.{listing};
 ghost use Rattle.rules.specs.Listing.{pairsOf, bytesOf};
 ghost use Rattle.lists.specs.Links.{Stores};
-ghost use Rattle.lists.specs.Answers.{Holds, HoldsAt, RoomFor, RoomForAll, ListedFrom};
+ghost use Rattle.lists.specs.Answers.{Holds, HoldsAt, RoomFor, RoomForAll};
 use super::Lists;
 use table::Level;
 use table::MOST;
@@ -43,7 +44,7 @@ impl Lists {
     // The list of the level into the buffer, from a place on, "one byte level, one byte task" a job; the place behind it.
     pub fn list_into(self, level: Level, buffer: &mut [u8], place: usize) -> usize
         requires { ⌜ RoomFor self (level .0) place (length (now buffer)) ⌝ }
-        ensures { λ r. ⌜ ((ls : ℕ → List ℕ) → Stores self ls → ListedFrom (now (buffer .entry)) place (pairsOf (level .0) (ls (level .0))) r (now (buffer .exit))) ⌝ }
+        ensures { λ r. ⌜ ((ls : ℕ → List ℕ) → Stores self ls → Puts (now (buffer .entry)) place (pairsOf (level .0) (ls (level .0))) r (now (buffer .exit))) ⌝ }
     {
         let l = level.0 as usize;
         let mut task = self.first[l];
@@ -61,7 +62,7 @@ impl Lists {
     // All lists, from level 1 up, into the buffer from its front; the place behind them.
     pub fn list_all(self, buffer: &mut [u8]) -> usize
         requires { ⌜ RoomForAll self (length (now buffer)) ⌝ }
-        ensures { λ r. ⌜ ((ls : ℕ → List ℕ) → Stores self ls → ListedFrom (now (buffer .entry)) 0 (bytesOf ls) r (now (buffer .exit))) ⌝ }
+        ensures { λ r. ⌜ ((ls : ℕ → List ℕ) → Stores self ls → Puts (now (buffer .entry)) 0 (bytesOf ls) r (now (buffer .exit))) ⌝ }
     {
         let mut at: usize = 0;
         for level in 1..=MOST as u8 {

@@ -22,9 +22,6 @@ event-same (Event.Release reading task) = refl
 event-same (Event.Done reading task) = refl
 event-same (Event.Clock reading) = refl
 
-pub event-one : (a b : Event) → callIn a ≡ callIn b → a ≡ b
-event-one a b e = sym (event-same a) ∙ ap eventBy e ∙ event-same b
-
 -- ---- and so are a record, and what was found
 
 abbrev recordBy : Rules.Record → Record
@@ -34,9 +31,6 @@ recordBy (Rules.EventRecord c) = Record.Event (eventBy c)
 record-same : (a : Record) → recordBy (recordIn a) ≡ a
 record-same (Record.Task x) = refl
 record-same (Record.Event e) = ap Record.Event (event-same e)
-
-pub record-one : (a b : Record) → recordIn a ≡ recordIn b → a ≡ b
-record-one a b e = sym (record-same a) ∙ ap recordBy e ∙ record-same b
 
 abbrev foundBy : Rules.Found → Found
 foundBy Rules.End = Found.End

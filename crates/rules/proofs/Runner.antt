@@ -4,12 +4,12 @@ use mathlib.Core.List.{List}
 use Prim.Native.Nat.{ℕ, _≤_}
 use lib.ListN.{length}
 use Rattle.rules.specs.Numbers.{Refusal, numberOf, Passed, Failed, firstOf}
-use Rattle.rules.specs.Table.{Task, tableTests, verdictOf}
+use Rattle.rules.specs.Table.{tableTests, verdictOf}
 use Rattle.rules.specs.State.{State, waiting}
 use Rattle.rules.specs.Calls.{Call, None, Refused, stepOf}
 use Rattle.rules.specs.Histories.{totalOf, boundOf}
 use Rattle.rules.specs.Lines.{taskIn, lineOf}
-use Rattle.rules.specs.Records.{itemsOf, tasksIn, callsIn, streamTests, streamOf, runnerTests}
+use Rattle.rules.specs.Records.{streamTests, streamOf, runnerTests, tasksRead, callsRead}
 use Rattle.rules.specs.Text.{refusalText}
 use Rattle.rules.specs.Runner.{heard, reportOf, outputBy, outputOf}
 use Rattle.rules.specs.Demands.{Exactly}
@@ -17,13 +17,6 @@ use Rattle.rules.proofs.Verdicts.{passed-failed, verdict-cases, first-a
 use Rattle.rules.proofs.Theorems.{demand-1, demand-3}
 
 module _ (s : List ℕ) where
-  -- what the records say
-  abbrev table : List Task
-  table = tasksIn (itemsOf s)
-
-  abbrev calls : List Call
-  calls = callsIn (itemsOf s)
-
   -- ---- "tests 14, then all records from the front .., then the table"
 
   pub runner-exactly : Exactly (runnerTests s) (firstOf (runnerTests s))
@@ -32,32 +25,32 @@ module _ (s : List ℕ) where
   -- a stream that is refused refuses the run, and else its table decides
   pub runner-refused : (r : Refusal) → streamOf s ≡ Failed r → firstOf (runnerTests s) ≡ Failed r
   unfolding streamOf
-  runner-refused r e = first-append-failed (streamTests s) (tableTests table) r e
+  runner-refused r e = first-append-failed (streamTests s) (tableTests (tasksRead s)) r e
 
-  pub runner-table : streamOf s ≡ Passed → firstOf (runnerTests s) ≡ verdictOf table
+  pub runner-table : streamOf s ≡ Passed → firstOf (runnerTests s) ≡ verdictOf (tasksRead s)
   unfolding streamOf verdictOf
-  runner-table e = first-append (streamTests s) (tableTests table) e
+  runner-table e = first-append (streamTests s) (tableTests (tasksRead s)) e
 
   -- a run that passes has a stream and a table that pass
   pub runner-stream : firstOf (runnerTests s) ≡ Passed → streamOf s ≡ Passed
   runner-stream e = verdict-cases (λ v. v ≡ Passed) (streamOf s) (λ _. refl) (λ r f. passed-failed (firstOf (runnerTests s)) r e (runner-refused r f))
 
-  pub runner-sound : firstOf (runnerTests s) ≡ Passed → verdictOf table ≡ Passed
+  pub runner-sound : firstOf (runnerTests s) ≡ Passed → verdictOf (tasksRead s) ≡ Passed
   runner-sound e = sym (runner-table (runner-stream e)) ∙ e
 
   -- ---- what it prints
 
   pub output-refused : (r : Refusal) → firstOf (runnerTests s) ≡ Failed r → outputOf s ≡ refusalText r
   unfolding outputOf
-  output-refused r e = ap (outputBy table calls) e
+  output-refused r e = ap (outputBy (tasksRead s) (callsRead s)) e
 
-  pub output-passed : firstOf (runnerTests s) ≡ Passed → outputOf s ≡ reportOf table calls
+  pub output-passed : firstOf (runnerTests s) ≡ Passed → outputOf s ≡ reportOf (tasksRead s) (callsRead s)
   unfolding outputOf
-  output-passed e = ap (outputBy table calls) e
+  output-passed e = ap (outputBy (tasksRead s) (callsRead s)) e
 
   -- the two numbers of the `S` line: the moves never total more than the bound of demand 3
-  pub runner-bound : firstOf (runnerTests s) ≡ Passed → totalOf (heard table calls) ≤ boundOf table (heard table calls)
-  runner-bound e = demand-3 table 0 (runner-sound e) calls .bound
+  pub runner-bound : firstOf (runnerTests s) ≡ Passed → totalOf (heard (tasksRead s) (callsRead s)) ≤ boundOf (tasksRead s) (heard (tasksRead s) (callsRead s))
+  runner-bound e = demand-3 (tasksRead s) 0 (runner-sound e) (callsRead s) .bound
 
 -- ---- "After a refused event, running and waiting are as before and moves are 0"
 

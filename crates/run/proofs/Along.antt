@@ -12,7 +12,7 @@ use Rattle.rules.specs.State.{State, waiting}
 use Rattle.rules.specs.Calls.{Call, movesIn, stepOf}
 use Rattle.rules.specs.Histories.{eventsOf, totalOf, boundOf, shareBy}
 use Rattle.rules.specs.Lines.{taskIn, lineOf, eventLines}
-use Rattle.rules.specs.Records.{End, Bad, Read, TaskRecord, EventRecord, recordAt, itemsFrom, itemsOf, callsIn}
+use Rattle.rules.specs.Records.{End, Bad, Read, TaskRecord, EventRecord, recordAt, itemsFrom, callsIn, callsRead}
 use Rattle.rules.specs.Text.{eventText, eventsText}
 use Rattle.rules.proofs.Streams.{end-at, read-within, calls-end, calls-bad, calls-more, calls-same}
 use Rattle.table.specs.Stored.{tableOf}
@@ -29,7 +29,8 @@ use Rattle.kernel.specs.Answers.{refusalIn}
 use Rattle.kernel.specs.Block.{viewOf, Whole}
 use Rattle.text.specs.Shown.{shownAs}
 use Rattle.run.specs.declared.events.Progress.{Progress}
-use Rattle.run.specs.Run.{eventRoom, eventsRoom, stepIn, totalsOf, Begins, Steps, Ends}
+use Rattle.text.specs.Room.{eventRoom}
+use Rattle.run.specs.Run.{eventsRoom, stepIn, totalsOf, Begins, Steps, Ends}
 
 -- ---- one E line
 
@@ -114,7 +115,7 @@ pub record Along (s : List ℕ) (b : Block) (before : List ℕ) (place : ℕ) (o
   pub moves : now .moves ≤ now .count * 2 ^ 32
   pub bound : now .bound ≤ now .count * 2 ^ 32
   pub size : length out ≡ length before
-  pub left : Left (tableOf (b .tasks .table)) before place (viewOf b) (callsIn (itemsOf s)) (viewOf (now .block)) (now .count) (callsIn (itemsFrom s at)) out (now .place) (now .moves) (now .bound)
+  pub left : Left (tableOf (b .tasks .table)) before place (viewOf b) (callsRead s) (viewOf (now .block)) (now .count) (callsIn (itemsFrom s at)) out (now .place) (now .moves) (now .bound)
 
 module _ (s : List ℕ) (b : Block) (before : List ℕ) (place : ℕ) where
   pub along-start : Whole b → Along s b before place before (record { block = b; place = place; count = 0; moves = 0; bound = 0 }) 0
@@ -128,7 +129,7 @@ module _ (s : List ℕ) (b : Block) (before : List ℕ) (place : ℕ) where
         moves = omega arith;
         bound = omega arith;
         size = refl;
-        left = left-all (tableOf (b .tasks .table)) before place (viewOf b) (callsIn (itemsOf s));
+        left = left-all (tableOf (b .tasks .table)) before place (viewOf b) (callsRead s);
       }
 
   module _ (out : List ℕ) (now : Progress) (at : ℕ) (w : Along s b before place out now at) where
@@ -173,7 +174,7 @@ module _ (s : List ℕ) (b : Block) (before : List ℕ) (place : ℕ) where
       along-room h room = omega (arith, w .counted, w .near, w .size)
 
       abbrev Ended : Type 0
-      Ended = Ends b (callsIn (itemsOf s)) before place (totalsOf now) out
+      Ended = Ends b (callsRead s) before place (totalsOf now) out
 
       done : callsIn (itemsFrom s at) ≡ [] → Ended
       done none =

@@ -22,7 +22,7 @@ module _ (tasks : Tasks) (k : ℕ) (w : LaidTask tasks k) (long : length (tasks 
   pub laid-place : (1 ≤ k) × (k ≤ tasks .table .count) × (tasks .table .count ≤ most)
   laid-place =
       let h : (1 ≤ k) × (k ≤ length (tableOf (tasks .table))) = both-le (w .task) in
-      (h .0, omega (arith, h .1, table-length (tasks .table) long), few-passed (tasks .table) long (w .copy .tested))
+      (h .0, omega (arith, h .1, table-length (tasks .table) long), few-passed (tasks .table) long (w .laid .copy .tested))
 
   pub laid-entry : taskAt (tableOf (tasks .table)) k .d ≡ nth (tasks .table) (k - 1) .d
   laid-entry = let h = laid-place in ap (λ (x : Task). x .d) (table-at (tasks .table) long (h .2) (k - 1) (omega arith))
@@ -31,7 +31,7 @@ module _ (tasks : Tasks) (k : ℕ) (w : LaidTask tasks k) (long : length (tasks 
   laid-first = first-by (tableOf (tasks .table)) k (nth (tasks .table) (k - 1) .d) laid-entry
 
   pub laid-copied : Copied (tasks .table .count) (tasks .rising)
-  laid-copied = record { table = tableOf (tasks .table); copy-of = w .copy; size = table-length (tasks .table) long }
+  laid-copied = record { table = tableOf (tasks .table); copy-of = w .laid .copy; size = table-length (tasks .table) long }
 
   -- the plan that is read with the deadline of the task's stored entry
   module _ (p : Plan) (e : p ≡ held (planFor (tableOf (tasks .table)) (nth (tasks .table) (k - 1) .d))) where
@@ -42,4 +42,4 @@ module _ (tasks : Tasks) (k : ℕ) (w : LaidTask tasks k) (long : length (tasks 
     pub laid-few : p .count ≤ most
     laid-few =
         let c : p .count ≡ length (planFor (tableOf (tasks .table)) (nth (tasks .table) (k - 1) .d)) = ap (λ (q : Plan). q .count) e ∙ points-count _ in
-        omega (arith, c, plan-fits (tableOf (tasks .table)) (nth (tasks .table) (k - 1) .d) (w .copy .tested))
+        omega (arith, c, plan-fits (tableOf (tasks .table)) (nth (tasks .table) (k - 1) .d) (w .laid .copy .tested))

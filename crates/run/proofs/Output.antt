@@ -9,10 +9,10 @@ use Rattle.laws.proofs.Buffers.{puts-then, puts-as}
 use Rattle.rules.specs.Numbers.{Refusal, longest, Verdict, Passed, Failed, firstOf, numberIn, givenWith}
 use Rattle.rules.specs.Table.{Task, most, verdictOf}
 use Rattle.rules.specs.State.{State}
-use Rattle.rules.specs.Calls.{Call, startOf}
+use Rattle.rules.specs.Calls.{startOf}
 use Rattle.rules.specs.Histories.{eventsOf, totalOf, boundOf}
 use Rattle.rules.specs.Lines.{planLines, eventLines}
-use Rattle.rules.specs.Records.{itemsOf, tasksIn, callsIn, streamOf, runnerTests}
+use Rattle.rules.specs.Records.{streamOf, runnerTests, tasksRead, callsRead}
 use Rattle.rules.specs.Text.{plansText, eventsText, sumText}
 use Rattle.rules.specs.Runner.{reportOf, outputOf}
 use Rattle.rules.proofs.Tables.{demand-1-table}
@@ -45,12 +45,6 @@ module _ (s before : List ℕ) where
   enough h p = rw (le-leb room (length before) h) p
 
 module _ (s : List ℕ) where
-  abbrev table : List Task
-  table = tasksIn (itemsOf s)
-
-  abbrev calls : List Call
-  calls = callsIn (itemsOf s)
-
   -- ---- X
 
   refusal-text : (v : Verdict) (q : Refusal) → v ≡ Failed q → firstOf (runnerTests s) ≡ Failed q → numbersText 88 (numberIn v) (givenWith v) ≡ outputOf s
@@ -61,20 +55,20 @@ module _ (s : List ℕ) where
   stream-refused v q e f = refusal-text v q e (runner-refused s q (sym f ∙ e))
 
   -- of one that is, from what start said of its table
-  module _ (readable : streamOf s ≡ Passed) (stored : Table) (is : stored ≡ tableIn table) (r : Kernel.Started) (st : Starts stored 0 r) where
-    said : verdictIn (r .verdict) ≡ verdictOf table
-    said = st .verdict ∙ ap (λ (t : Table). verdictOf (tableOf t)) is ∙ table-verdict table
+  module _ (readable : streamOf s ≡ Passed) (stored : Table) (is : stored ≡ tableIn (tasksRead s)) (r : Kernel.Started) (st : Starts stored 0 r) where
+    said : verdictIn (r .verdict) ≡ verdictOf (tasksRead s)
+    said = st .verdict ∙ ap (λ (t : Table). verdictOf (tableOf t)) is ∙ table-verdict (tasksRead s)
 
     pub table-refused : (q : Refusal) → verdictIn (r .verdict) ≡ Failed q → numbersText 88 (numberIn (verdictIn (r .verdict))) (givenWith (verdictIn (r .verdict))) ≡ outputOf s
     table-refused q e = refusal-text (verdictIn (r .verdict)) q e (runner-table s readable ∙ sym said ∙ e)
 
     pub table-sound : verdictIn (r .verdict) ≡ Passed → Started s (r .block)
     table-sound e =
-        let sound : verdictOf table ≡ Passed = sym said ∙ e in
-        let fits : length table ≤ most = demand-1-table table .numbers .sound .0 sound .0 .1 in
-        let same : tableOf (tableIn table) ≡ table = table-same table fits in
-        let st′ : Starts (tableIn table) 0 r = subst (λ (t : Table). Starts t 0 r) is st in
-        let begun = start-whole (tableIn table) 0 r (table-places table) st′ (ap verdictOf same ∙ sound) in
+        let sound : verdictOf (tasksRead s) ≡ Passed = sym said ∙ e in
+        let fits : length (tasksRead s) ≤ most = demand-1-table (tasksRead s) .numbers .sound .0 sound .0 .1 in
+        let same : tableOf (tableIn (tasksRead s)) ≡ tasksRead s = table-same (tasksRead s) fits in
+        let st′ : Starts (tableIn (tasksRead s)) 0 r = subst (λ (t : Table). Starts t 0 r) is st in
+        let begun = start-whole (tableIn (tasksRead s)) 0 r (table-places (tasksRead s)) st′ (ap verdictOf same ∙ sound) in
         record { passed = runner-table s readable ∙ sound; whole = begun .0; view = begun .1 ∙ ap (λ (ts : List Task). startOf ts 0) same }
 
   -- ---- P, E and S
@@ -83,13 +77,13 @@ module _ (s : List ℕ) where
   passed-short e = stream-numbers s .readable .0 (runner-stream s e) .0
 
   module _ (b : Block) (w : Started s b) where
-    pub table-started : tableOf (b .tasks .table) ≡ table
+    pub table-started : tableOf (b .tasks .table) ≡ tasksRead s
     table-started = ap (λ (x : State). x .table) (w .view)
 
     -- the lines of this table, from this state on
     abbrev shown : List Task → State → List ℕ
     shown ts x =
-        plansText (planLines ts (length ts) 1) ++ eventsText (eventLines x 1 calls) ++ sumText (totalOf (eventsOf x calls)) (boundOf ts (eventsOf x calls))
+        plansText (planLines ts (length ts) 1) ++ eventsText (eventLines x 1 (callsRead s)) ++ sumText (totalOf (eventsOf x (callsRead s))) (boundOf ts (eventsOf x (callsRead s)))
 
     shown-output : shown (tableOf (b .tasks .table)) (viewOf b) ≡ outputOf s
     unfolding reportOf
@@ -98,10 +92,10 @@ module _ (s : List ℕ) where
     -- the three parts, one behind another, are the output
     pub report-put : {before first second after : List ℕ} {i j k moves bound : ℕ}
         → Puts before 0 (plansText (planLines (tableOf (b .tasks .table)) (length (tableOf (b .tasks .table))) 1)) i first
-        → Puts first i (eventsText (eventLines (viewOf b) 1 calls)) j second
-        → moves ≡ totalOf (eventsOf (viewOf b) calls) → bound ≡ boundOf (tableOf (b .tasks .table)) (eventsOf (viewOf b) calls)
+        → Puts first i (eventsText (eventLines (viewOf b) 1 (callsRead s))) j second
+        → moves ≡ totalOf (eventsOf (viewOf b) (callsRead s)) → bound ≡ boundOf (tableOf (b .tasks .table)) (eventsOf (viewOf b) (callsRead s))
         → Puts second j (sumText moves bound) k after → Puts before 0 (outputOf s) k after
     report-put {moves = moves} {bound = bound} p q m n l =
         puts-as
-        (ap₂ (λ (x y : ℕ). plansText (planLines (tableOf (b .tasks .table)) (length (tableOf (b .tasks .table))) 1) ++ eventsText (eventLines (viewOf b) 1 calls) ++ sumText x y) m n ∙ shown-output)
+        (ap₂ (λ (x y : ℕ). plansText (planLines (tableOf (b .tasks .table)) (length (tableOf (b .tasks .table))) 1) ++ eventsText (eventLines (viewOf b) 1 (callsRead s)) ++ sumText x y) m n ∙ shown-output)
         (puts-then (puts-then p q) l)

@@ -9,7 +9,8 @@ use Rattle.laws.proofs.Buffers.{puts-none, puts-then, puts-as, puts-length}
 use Rattle.rules.specs.Table.{Task, most}
 use Rattle.rules.specs.Lines.{planLines}
 use Rattle.rules.specs.Text.{planText, plansText}
-use Rattle.run.specs.Run.{lineOfPlan, planRoom}
+use Rattle.text.specs.Room.{planRoom}
+use Rattle.run.specs.Run.{lineOfPlan}
 
 -- with n lines left from task k up, where so much is written, the whole comes to all lines
 pub record PlansLeft (table : List Task) (before : List ℕ) (k n : ℕ) (out : List ℕ) (at : ℕ) : Type 0 where
@@ -39,7 +40,7 @@ module _ (table : List Task) (before : List ℕ) where
   pub record Planning (k : ℕ) (out : List ℕ) (at : ℕ) : Type 0 where
     pub low : 1 ≤ k
     pub high : k ≤ suc (length table)
-    pub near : at ≤ (k - 1) * planRoom
+    pub near : at ≤ (k - 1) * planRoom most
     pub same : length out ≡ length before
     pub left : PlansLeft table before k (suc (length table) - k) out at
 
@@ -49,7 +50,7 @@ module _ (table : List Task) (before : List ℕ) where
       record { low = omega arith; high = omega arith; near = omega arith; same = refl; left = rw e plans-all }
 
   module _ {k : ℕ} {out : List ℕ} {at : ℕ} (p : Planning k out at) where
-    pub planning-next : k ≤ length table → {out′ : List ℕ} {at′ : ℕ} → Puts out at (planText (lineOfPlan table k)) at′ out′ → at′ ≤ at + planRoom → Planning (k + 1) out′ at′
+    pub planning-next : k ≤ length table → {out′ : List ℕ} {at′ : ℕ} → Puts out at (planText (lineOfPlan table k)) at′ out′ → at′ ≤ at + planRoom most → Planning (k + 1) out′ at′
     planning-next h {out′} {at′} w l =
         let e : suc (length table) - k ≡ suc (length table - k) = omega arith in
         let f : suc (length table) - (k + 1) ≡ length table - k = omega arith in
@@ -65,8 +66,8 @@ module _ (table : List Task) (before : List ℕ) where
     pub planning-end : length table < k → Puts before 0 (plansText (planLines table (length table) 1)) at out
     planning-end h = let e : suc (length table) - k ≡ 0 = omega (arith, p .high) in plans-end (rw e at (p .left))
 
-    pub planning-room : length table ≤ most → k ≤ length table → at + planRoom ≤ most * planRoom
+    pub planning-room : length table ≤ most → k ≤ length table → at + planRoom most ≤ most * planRoom most
     planning-room few h = omega (arith, p .near, p .low)
 
-    pub planning-most : length table ≤ most → at ≤ most * planRoom
+    pub planning-most : length table ≤ most → at ≤ most * planRoom most
     planning-most few = omega (arith, p .near, p .low, p .high)

@@ -25,8 +25,9 @@ use Rattle.kernel.proofs.Fifteen.{of-whole}
 use Rattle.kernel.proofs.Asking.{lists-viewed, copy-viewed}
 use Rattle.text.specs.declared.lines.Shown.{Shown}
 use Rattle.text.specs.Shown.{shownAs}
+use Rattle.text.specs.Room.{eventRoom}
 use Rattle.run.specs.declared.events.Progress.{Progress}
-use Rattle.run.specs.Run.{stepIn, eventRoom, Laid, Shares, Begins, Steps}
+use Rattle.run.specs.Run.{stepIn, Laid, Shares, Begins, Steps}
 
 -- ---- the call
 

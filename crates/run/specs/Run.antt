@@ -14,7 +14,7 @@ use Rattle.rules.specs.State.{Running}
 use Rattle.rules.specs.Histories.{eventsOf, totalOf, boundOf, shareBy}
 use Rattle.rules.specs.Lines.{PlanLine, lineOf, eventLines}
 use Rattle.rules.specs.Text.{eventText, eventsText}
-use Rattle.rules.specs.Records.{itemsOf, tasksIn, runnerTests}
+use Rattle.rules.specs.Records.{tasksRead, runnerTests}
 use Rattle.rules.specs.Runner.{outputOf}
 use Rattle.table.specs.Stored.{tableOf}
 use Rattle.levels.specs.Copy.{CopyOf}
@@ -23,6 +23,7 @@ use Rattle.kernel.specs.declared.Block.{Block}
 use Rattle.kernel.specs.declared.Called.{Called}
 use Rattle.kernel.specs.Block.{viewOf, Whole, SameTasks}
 use Rattle.kernel.specs.Answers.{answerIn}
+use Rattle.text.specs.Room.{eventRoom}
 use Rattle.run.specs.declared.events.Progress.{Progress}
 use Rattle.run.specs.declared.events.Totals.{Totals}
 
@@ -44,7 +45,7 @@ Runs s before r after = RunsBy s before r after (leb room (length before))
 pub record Started (s : List ℕ) (b : Block) : Type 0 where
   pub passed : firstOf (runnerTests s) ≡ Passed
   pub whole : Whole b
-  pub view : viewOf b ≡ startOf (tasksIn (itemsOf s)) 0
+  pub view : viewOf b ≡ startOf (tasksRead s) 0
 
 -- ---- P lines
 
@@ -54,23 +55,15 @@ pub record Laid (tasks : Tasks) : Type 0 where
 
 -- .. and k is one of its tasks
 pub record LaidTask (tasks : Tasks) (k : ℕ) : Type 0 where
-  pub copy : CopyOf (tableOf (tasks .table)) (tasks .rising)
+  pub laid : Laid tasks
   pub task : isTask (tableOf (tasks .table)) k ≡ true
 
 abbrev pub lineOfPlan : List Task → ℕ → PlanLine
 lineOfPlan table k = record { task = k; level = firstLevel table k; points = planOf table k }
 
--- room for the longest P line: a letter, two columns, a point and a level for each task, a line's end
-abbrev pub planRoom : ℕ
-planRoom = 44 + 42 * most
-
 -- ---- E lines
 
--- room for the longest E line
-abbrev pub eventRoom : ℕ
-eventRoom = 129
-
--- and for those of the longest stream, whose shortest event record has 6 bytes
+-- room for those of the longest stream, whose shortest event record has 6 bytes
 abbrev pub eventsRoom : ℕ
 eventsRoom = 10923 * eventRoom
 

@@ -6,14 +6,15 @@ ghost use Rattle.rules.specs.Numbers.{longest};
 ghost use Rattle.rules.specs.Lines as Rules;
 ghost use Rattle.rules.specs.Levels.{firstLevel};
 ghost use Rattle.rules.specs.Histories.{shareBy};
-ghost use Rattle.rules.specs.Records.{itemsOf, callsIn};
+ghost use Rattle.rules.specs.Records.{callsRead};
 ghost use Rattle.table.specs.Stored.{tableOf};
 ghost use Rattle.text.specs.Shown.{shownAs};
 ghost use Rattle.records.specs.Read.{callIn};
 ghost use Rattle.kernel.specs.Block.{Whole};
 ghost use Rattle.kernel.specs.Answers.{answerIn};
 ghost use Rattle.kernel.specs.Calls.{Gives};
-ghost use Rattle.run.specs.Run.{totalsOf, stepIn, eventRoom, eventsRoom, LaidTask, Shares, Steps, Begins, Ends};
+ghost use Rattle.text.specs.Room.{eventRoom};
+ghost use Rattle.run.specs.Run.{totalsOf, stepIn, eventsRoom, LaidTask, Shares, Steps, Begins, Ends};
 use jobs::Tasks;
 use kernel::Answer;
 use kernel::Block;
@@ -163,7 +164,7 @@ fn event(progress: Progress, event: Event, out: &mut [u8]) -> Progress
 // All events of the stream, their lines from a place on.
 pub fn events(stream: &[u8], block: Block, out: &mut [u8], place: usize) -> Totals
     requires { ⌜ Whole block × (length (now stream) ≤ longest) × (place + eventsRoom ≤ length (now out)) ⌝ }
-    ensures { λ r. ⌜ Ends block (callsIn (itemsOf (now (stream .entry)))) (now (out .entry)) place r (now (out .exit)) ⌝ }
+    ensures { λ r. ⌜ Ends block (callsRead (now (stream .entry))) (now (out .entry)) place r (now (out .exit)) ⌝ }
 {
     let mut now = Progress {
         block,

@@ -30,7 +30,7 @@ use text::lines::refusal_line;
 use text::lines::sum_line;
 
 mod plans; // P lines
-pub mod events; // E lines
+mod events; // E lines
 
 // Room for the longest output: 2 MiB.
 pub const ROOM: usize = 2097152;

@@ -6,7 +6,8 @@ ghost use Rattle.rules.specs.Table.{most};
 ghost use Rattle.rules.specs.Lines.{planLines};
 ghost use Rattle.rules.specs.Text.{planText, plansText};
 ghost use Rattle.table.specs.Stored.{tableOf};
-ghost use Rattle.run.specs.Run.{planRoom, lineOfPlan, Laid, LaidTask};
+ghost use Rattle.text.specs.Room.{planRoom};
+ghost use Rattle.run.specs.Run.{lineOfPlan, Laid, LaidTask};
 use jobs::Tasks;
 use levels::first_level;
 use levels::plan_of;
@@ -15,8 +16,8 @@ use text::lines::plan_line;
 
 // The line of one task.
 fn task_line(tasks: Tasks, task: TaskNo, out: &mut [u8], at: usize) -> usize
-    requires { ⌜ LaidTask tasks (task .0) × (at + planRoom ≤ length (now out)) ⌝ }
-    ensures { λ r. ⌜ Puts (now (out .entry)) at (planText (lineOfPlan (tableOf (tasks .table)) (task .0))) r (now (out .exit)) × (r ≤ at + planRoom) ⌝ }
+    requires { ⌜ LaidTask tasks (task .0) × (at + planRoom most ≤ length (now out)) ⌝ }
+    ensures { λ r. ⌜ Puts (now (out .entry)) at (planText (lineOfPlan (tableOf (tasks .table)) (task .0))) r (now (out .exit)) × (r ≤ at + planRoom most) ⌝ }
 {
     let table = tasks.table;
     let i = task.0 as usize;
@@ -28,8 +29,8 @@ fn task_line(tasks: Tasks, task: TaskNo, out: &mut [u8], at: usize) -> usize
 
 // The lines of all tasks, from the buffer's front.
 pub fn plan_lines(tasks: Tasks, out: &mut [u8]) -> usize
-    requires { ⌜ Laid tasks × (most * planRoom ≤ length (now out)) ⌝ }
-    ensures { λ r. ⌜ Puts (now (out .entry)) 0 (plansText (planLines (tableOf (tasks .table)) (length (tableOf (tasks .table))) 1)) r (now (out .exit)) × (r ≤ most * planRoom) ⌝ }
+    requires { ⌜ Laid tasks × (most * planRoom most ≤ length (now out)) ⌝ }
+    ensures { λ r. ⌜ Puts (now (out .entry)) 0 (plansText (planLines (tableOf (tasks .table)) (length (tableOf (tasks .table))) 1)) r (now (out .exit)) × (r ≤ most * planRoom most) ⌝ }
 {
     let count = tasks.table.count;
     let mut at: usize = 0;

@@ -13,7 +13,7 @@ use Rattle.laws.proofs.Arrays.{padded, padded-length, padded-next, padded-full,
 use Rattle.rules.specs.Table as Rules
 use Rattle.rules.specs.Table.{most, verdictOf}
 use Rattle.rules.specs.Calls.{Call}
-use Rattle.rules.specs.Records.{End, Bad, Read, TaskRecord, EventRecord, recordAt, itemsFrom, itemsOf, tasksIn}
+use Rattle.rules.specs.Records.{End, Bad, Read, TaskRecord, EventRecord, recordAt, itemsFrom, tasksIn, tasksRead}
 use Rattle.rules.proofs.Streams.{end-at, read-within, tasks-end, tasks-bad, tasks-more, tasks-same}
 use Rattle.rules.proofs.Tables.{demand-1-table}
 use Rattle.table.specs.declared.Table.{Table}
@@ -98,7 +98,7 @@ pub record Loaded (s : List ℕ) (at : ℕ) (table : Table) : Type 0 where
   pub ahead : List Rules.Task
   pub stored : table ≡ tableIn ahead
   pub few : length ahead ≤ at
-  pub all : ahead ++ tasksIn (itemsFrom s at) ≡ tasksIn (itemsOf s)
+  pub all : ahead ++ tasksIn (itemsFrom s at) ≡ tasksRead s
 
 module _ (s : List ℕ) where
   pub loaded-start : Loaded s 0 (record { count = 0; tasks = replicate most noTask })
@@ -109,16 +109,16 @@ module _ (s : List ℕ) where
     pub loaded-count : table .count ≤ at
     loaded-count = omega (arith, ap (λ (y : Table). y .count) (now .stored), table-count (now .ahead), now .few)
 
-    done : tasksIn (itemsFrom s at) ≡ [] → table ≡ tableIn (tasksIn (itemsOf s))
+    done : tasksIn (itemsFrom s at) ≡ [] → table ≡ tableIn (tasksRead s)
     done e = now .stored ∙ ap tableIn (sym (append-nil (now .ahead)) ∙ ap (λ (ts : List Rules.Task). now .ahead ++ ts) (sym e) ∙ now .all)
 
-    pub loaded-past : length s ≤ at → table ≡ tableIn (tasksIn (itemsOf s))
+    pub loaded-past : length s ≤ at → table ≡ tableIn (tasksRead s)
     loaded-past h = done (tasks-end s at h)
 
-    pub loaded-end : recordAt s at ≡ End → table ≡ tableIn (tasksIn (itemsOf s))
+    pub loaded-end : recordAt s at ≡ End → table ≡ tableIn (tasksRead s)
     loaded-end e = loaded-past (end-at s at e)
 
-    pub loaded-bad : recordAt s at ≡ Bad → table ≡ tableIn (tasksIn (itemsOf s))
+    pub loaded-bad : recordAt s at ≡ Bad → table ≡ tableIn (tasksRead s)
     loaded-bad e = done (tasks-bad s at e)
 
     pub loaded-event : (c : Call) (n : ℕ) → recordAt s at ≡ Read (EventRecord c) n → Loaded s (at + n) table

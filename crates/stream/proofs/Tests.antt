@@ -2,11 +2,11 @@
 use mathlib.Core.Path.{_≡_, refl}
 use mathlib.Core.Bool.{Bool, true, false}
 use mathlib.Core.List.{List}
-use Prim.Native.Nat.{ℕ, _+_, _≤_, _<_}
-use borrow.Author.Tests.{lt-ltb, le-ltb}
+use Prim.Native.Nat.{ℕ, _+_, _≤_}
+use borrow.Author.Tests.{le-ltb}
 use lib.ListN.{length}
 use Rattle.laws.proofs.Bools.{true-false}
-use Rattle.rules.specs.Numbers.{longest, Verdict, Passed, Failed, TaskBehindEvent, InputTooLong, firstOf}
+use Rattle.rules.specs.Numbers.{longest, Verdict, Passed, Failed, TaskBehindEvent, firstOf}
 use Rattle.rules.specs.Table.{Task}
 use Rattle.rules.specs.Records.{End, recordAt, itemsFrom, isTaskRecord, recordTests, streamOf}
 use Rattle.rules.proofs.Streams.{end-at, tests-end, tests-late, tests-task, tests-event}
@@ -39,10 +39,6 @@ module _ (s : List ℕ) (begun : Bool) (at : ℕ) where
 -- ---- the length
 
 module _ (s : List ℕ) where
-  pub too-long : longest < length s → streamOf s ≡ Failed InputTooLong
-  unfolding streamOf firstOf
-  too-long h = rw (lt-ltb longest (length s) h)
-
   pub short-enough : length s ≤ longest → streamOf s ≡ testsFrom s false 0
   unfolding streamOf firstOf
   short-enough h = rw (le-ltb longest (length s) h)

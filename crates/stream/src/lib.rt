@@ -10,7 +10,7 @@ ghost use mathlib.Core.Bool.{false};
 ghost use Prim.Native.Nat.{suc, _<_, _^_};
 ghost use Rattle.rules.specs.Numbers.{firstOf, numberIn, givenWith};
 ghost use Rattle.rules.specs.Table as Rules;
-ghost use Rattle.rules.specs.Records.{isTaskRecord, itemsOf, recordTests, streamOf, tasksIn};
+ghost use Rattle.rules.specs.Records.{isTaskRecord, itemsOf, recordTests, streamOf, tasksRead};
 ghost use Rattle.table.specs.Stored.{taskOf};
 ghost use Rattle.records.specs.Read.{readAs};
 ghost use Rattle.stream.specs.Answer.{streamIn};
@@ -127,7 +127,7 @@ fn added(table: Table, task: Task) -> Table
 
 // The table that the task records make, in their order.
 pub fn table_in(stream: &[u8]) -> Table
-    ensures { λ r. ⌜ r ≡ tableIn (tasksIn (itemsOf (now (stream .entry)))) ⌝ }
+    ensures { λ r. ⌜ r ≡ tableIn (tasksRead (now (stream .entry))) ⌝ }
 {
     let none = Task { c: 0, d: 0, t: 0 };
     let mut table = Table {

@@ -11,6 +11,7 @@ use Rattle.rules.specs.Text.{numberText, column, pointsText}
 use Rattle.levels.specs.declared.Plan.{Plan}
 use Rattle.levels.specs.declared.Point.{Point}
 use Rattle.text.specs.Shown.{pointOf, pointsIn}
+use Rattle.text.specs.Room.{numberRoom, columnRoom, pointsRoom}
 
 -- "` point:level`"
 abbrev pointText : Point → List ℕ
@@ -33,7 +34,7 @@ first-next ps n d h = rw add-one (go ps n h)
 -- the first n points have been put into the buffer from a place on
 pub record PointsPut (before : List ℕ) (place : ℕ) (ps : List Point) (n end : ℕ) (after : List ℕ) : Type 0 where
   pub text : Puts before place (firstText n ps) end after
-  pub within : end ≤ place + 42 * n
+  pub within : end ≤ place + pointsRoom n
   pub size : length after ≡ length before
 
 pub points-none : (before : List ℕ) (place : ℕ) (ps : List Point) → PointsPut before place ps 0 place before
@@ -42,7 +43,7 @@ points-none before place ps = record { text = puts-none before place; within = o
 
 -- the next point's columns are put behind them
 pub points-next : {before a b c after : List ℕ} {place i j k end : ℕ} {ps : List Point} (n : ℕ) (d : Point) → PointsPut before place ps n i a → n < length ps
-    → Puts a i (column (getD ps n d .at)) j b × (j ≤ i + 21) → Puts b j (58 ∷ []) k c → Puts c k (numberText (getD ps n d .level .0)) end after × (end ≤ k + 20)
+    → Puts a i (column (getD ps n d .at)) j b × (j ≤ i + columnRoom) → Puts b j (58 ∷ []) k c → Puts c k (numberText (getD ps n d .level .0)) end after × (end ≤ k + numberRoom)
     → PointsPut before place ps (n + 1) end after
 points-next {ps = ps} n d done h at mark level =
     let next = puts-then (at .0) (puts-then mark (level .0)) in
@@ -54,5 +55,5 @@ points-next {ps = ps} n d done h at mark level =
 
 -- and those are all
 pub points-all : {before after : List ℕ} {place n end : ℕ} (plan : Plan) → PointsPut before place (plan .points) n end after → n ≡ plan .count
-    → Puts before place (pointsText (pointsIn plan)) end after × (end ≤ place + 42 * plan .count)
+    → Puts before place (pointsText (pointsIn plan)) end after × (end ≤ place + pointsRoom (plan .count))
 points-all plan done e = rw (← e) (done .text, done .within)

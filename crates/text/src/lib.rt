@@ -10,6 +10,7 @@ ghost use lib.Signed.{_<ℤ_};
 ghost use lib.ListN.{length};
 ghost use Rattle.laws.specs.Words.{Puts};
 ghost use Rattle.rules.specs.Text.{digits, numberText, signedText, column};
+ghost use Rattle.text.specs.Room.{numberRoom, columnRoom};
 
 pub mod lines; // the lines X, P, E and S
 
@@ -41,16 +42,16 @@ fn put_digits(buffer: &mut [u8], at: usize, n: u64, k: usize) -> usize
 
 // A number in decimal.
 pub fn put_number(buffer: &mut [u8], at: usize, n: u64) -> usize
-    requires { ⌜ at + 20 ≤ length (now buffer) ⌝ }
-    ensures { λ r. ⌜ Puts (now (buffer .entry)) at (numberText n) r (now (buffer .exit)) × (r ≤ at + 20) ⌝ }
+    requires { ⌜ at + numberRoom ≤ length (now buffer) ⌝ }
+    ensures { λ r. ⌜ Puts (now (buffer .entry)) at (numberText n) r (now (buffer .exit)) × (r ≤ at + numberRoom) ⌝ }
 {
     put_digits(buffer, at, n, DIGITS)
 }
 
 // A number behind a blank.
 pub fn put_column(buffer: &mut [u8], at: usize, n: u64) -> usize
-    requires { ⌜ at + 21 ≤ length (now buffer) ⌝ }
-    ensures { λ r. ⌜ Puts (now (buffer .entry)) at (column n) r (now (buffer .exit)) × (r ≤ at + 21) ⌝ }
+    requires { ⌜ at + columnRoom ≤ length (now buffer) ⌝ }
+    ensures { λ r. ⌜ Puts (now (buffer .entry)) at (column n) r (now (buffer .exit)) × (r ≤ at + columnRoom) ⌝ }
 {
     let next = put_byte(buffer, at, b' ');
     put_number(buffer, next, n)
@@ -66,8 +67,8 @@ pub fn below_zero(z: i64) -> u64
 
 // A signed number in decimal.
 pub fn put_signed(buffer: &mut [u8], at: usize, z: i64) -> usize
-    requires { ⌜ at + 21 ≤ length (now buffer) ⌝ }
-    ensures { λ r. ⌜ Puts (now (buffer .entry)) at (signedText z) r (now (buffer .exit)) × (r ≤ at + 21) ⌝ }
+    requires { ⌜ at + columnRoom ≤ length (now buffer) ⌝ }
+    ensures { λ r. ⌜ Puts (now (buffer .entry)) at (signedText z) r (now (buffer .exit)) × (r ≤ at + columnRoom) ⌝ }
 {
     if z < 0 {
         let next = put_byte(buffer, at, b'-');

@@ -4,7 +4,7 @@
 //     P task first-level point:level ..
 //     E count answer running moves waiting margin
 //     S total bound
-ghost use Prim.Native.Nat.{_+_, _*_, _<_, _≤_};
+ghost use Prim.Native.Nat.{_+_, _≤_};
 ghost use mathlib.Core.Path.{_≡_};
 ghost use lib.ListN.{length};
 ghost use Rattle.laws.specs.Words.{Puts};
@@ -12,6 +12,7 @@ ghost use Rattle.rules.specs.Table.{most};
 ghost use Rattle.rules.specs.Text.{marginText, pointsText, planText, eventText, sumText};
 ghost use Rattle.kernel.specs.Answers.{marginIn};
 ghost use Rattle.text.specs.Shown.{numbersText, pointsIn, shownAs};
+ghost use Rattle.text.specs.Room.{marginRoom, numbersRoom, pointsRoom, planRoom, eventRoom};
 use super::put_byte;
 use super::put_column;
 use super::put_number;
@@ -32,8 +33,8 @@ pub struct Shown {
 
 // A letter and two numbers: the lines X and S.
 fn numbers_line(buffer: &mut [u8], at: usize, letter: u8, first: u64, second: u64) -> usize
-    requires { ⌜ at + 44 ≤ length (now buffer) ⌝ }
-    ensures { λ r. ⌜ Puts (now (buffer .entry)) at (numbersText letter first second) r (now (buffer .exit)) × (r ≤ at + 44) ⌝ }
+    requires { ⌜ at + numbersRoom ≤ length (now buffer) ⌝ }
+    ensures { λ r. ⌜ Puts (now (buffer .entry)) at (numbersText letter first second) r (now (buffer .exit)) × (r ≤ at + numbersRoom) ⌝ }
 {
     let a = put_byte(buffer, at, letter);
     let b = put_column(buffer, a, first);
@@ -43,24 +44,24 @@ fn numbers_line(buffer: &mut [u8], at: usize, letter: u8, first: u64, second: u6
 
 // "`X number task-or-offset`"
 pub fn refusal_line(buffer: &mut [u8], at: usize, number: u64, given: u64) -> usize
-    requires { ⌜ at + 44 ≤ length (now buffer) ⌝ }
-    ensures { λ r. ⌜ Puts (now (buffer .entry)) at (numbersText 88 number given) r (now (buffer .exit)) × (r ≤ at + 44) ⌝ }
+    requires { ⌜ at + numbersRoom ≤ length (now buffer) ⌝ }
+    ensures { λ r. ⌜ Puts (now (buffer .entry)) at (numbersText 88 number given) r (now (buffer .exit)) × (r ≤ at + numbersRoom) ⌝ }
 {
     numbers_line(buffer, at, b'X', number, given)
 }
 
 // "`S` with total moves and the bound of demand 3"
 pub fn sum_line(buffer: &mut [u8], at: usize, total: u64, bound: u64) -> usize
-    requires { ⌜ at + 44 ≤ length (now buffer) ⌝ }
-    ensures { λ r. ⌜ Puts (now (buffer .entry)) at (sumText total bound) r (now (buffer .exit)) × (r ≤ at + 44) ⌝ }
+    requires { ⌜ at + numbersRoom ≤ length (now buffer) ⌝ }
+    ensures { λ r. ⌜ Puts (now (buffer .entry)) at (sumText total bound) r (now (buffer .exit)) × (r ≤ at + numbersRoom) ⌝ }
 {
     numbers_line(buffer, at, b'S', total, bound)
 }
 
 // "margin or `-`", behind a blank.
 fn put_margin(buffer: &mut [u8], at: usize, margin: Margin) -> usize
-    requires { ⌜ at + 22 ≤ length (now buffer) ⌝ }
-    ensures { λ r. ⌜ Puts (now (buffer .entry)) at (marginText (marginIn margin)) r (now (buffer .exit)) × (r ≤ at + 22) ⌝ }
+    requires { ⌜ at + marginRoom ≤ length (now buffer) ⌝ }
+    ensures { λ r. ⌜ Puts (now (buffer .entry)) at (marginText (marginIn margin)) r (now (buffer .exit)) × (r ≤ at + marginRoom) ⌝ }
 {
     let next = put_byte(buffer, at, b' ');
     match margin {
@@ -71,8 +72,8 @@ fn put_margin(buffer: &mut [u8], at: usize, margin: Margin) -> usize
 
 // "one `E` line an event record"
 pub fn event_line(buffer: &mut [u8], at: usize, line: Shown) -> usize
-    requires { ⌜ at + 129 ≤ length (now buffer) ⌝ }
-    ensures { λ r. ⌜ Puts (now (buffer .entry)) at (eventText (shownAs line)) r (now (buffer .exit)) × (r ≤ at + 129) ⌝ }
+    requires { ⌜ at + eventRoom ≤ length (now buffer) ⌝ }
+    ensures { λ r. ⌜ Puts (now (buffer .entry)) at (eventText (shownAs line)) r (now (buffer .exit)) × (r ≤ at + eventRoom) ⌝ }
 {
     let margin = line.margin;
     let a = put_byte(buffer, at, b'E');
@@ -87,8 +88,8 @@ pub fn event_line(buffer: &mut [u8], at: usize, line: Shown) -> usize
 
 // "` point:level` for each promotion"
 fn put_points(buffer: &mut [u8], at: usize, plan: Plan) -> usize
-    requires { ⌜ (plan .count ≤ most) × (at + 42 * plan .count ≤ length (now buffer)) ⌝ }
-    ensures { λ r. ⌜ Puts (now (buffer .entry)) at (pointsText (pointsIn plan)) r (now (buffer .exit)) × (r ≤ at + 42 * plan .count) ⌝ }
+    requires { ⌜ (plan .count ≤ most) × (at + pointsRoom (plan .count) ≤ length (now buffer)) ⌝ }
+    ensures { λ r. ⌜ Puts (now (buffer .entry)) at (pointsText (pointsIn plan)) r (now (buffer .exit)) × (r ≤ at + pointsRoom (plan .count)) ⌝ }
 {
     let mut next = at;
     for i in 0..plan.count {
@@ -103,8 +104,8 @@ fn put_points(buffer: &mut [u8], at: usize, plan: Plan) -> usize
 
 // "one `P task first-level` line a task"
 pub fn plan_line(buffer: &mut [u8], at: usize, task: u64, level: Level, plan: Plan) -> usize
-    requires { ⌜ (plan .count ≤ most) × (at + 44 + 42 * plan .count ≤ length (now buffer)) ⌝ }
-    ensures { λ r. ⌜ Puts (now (buffer .entry)) at (planText (record { task = task; level = level .0; points = pointsIn plan })) r (now (buffer .exit)) × (r ≤ at + 44 + 42 * plan .count) ⌝ }
+    requires { ⌜ (plan .count ≤ most) × (at + planRoom (plan .count) ≤ length (now buffer)) ⌝ }
+    ensures { λ r. ⌜ Puts (now (buffer .entry)) at (planText (record { task = task; level = level .0; points = pointsIn plan })) r (now (buffer .exit)) × (r ≤ at + planRoom (plan .count)) ⌝ }
 {
     let a = put_byte(buffer, at, b'P');
     let b = put_column(buffer, a, task);

@@ -7,7 +7,8 @@ use native.Mathlib.Decide.{ℕ-discrete}
 use native.Mathlib.Omega.{arith}
 use lib.ListN.{length, getD, drop, length-append, List·getD-append}
 use lib.Seq.{ext-getD, getD-at}
-use Rattle.laws.specs.Words.{In, joined}
+use Rattle.laws.specs.Words.{In, joined, Puts}
+use Rattle.laws.proofs.Buffers.{puts-written}
 use Rattle.laws.proofs.Orders.{long-none}
 use Rattle.rules.specs.Table.{most}
 use Rattle.rules.specs.State.{listing}
@@ -15,7 +16,6 @@ use Rattle.rules.specs.Listing.{pairsOf, bytesOf}
 use Rattle.rules.proofs.Listings.{bytes-twice}
 use Rattle.lists.specs.declared.Lists.{Lists}
 use Rattle.lists.specs.Links.{Numbered, Waits, Stores}
-use Rattle.lists.specs.Answers.{ListedFrom}
 use Rattle.lists.proofs.Together.{listing-few}
 use Rattle.queue.specs.Row.{byteLevel, byteTask, tasksIn}
 
@@ -120,11 +120,11 @@ pub record Read (ls : ℕ → List ℕ) (bytes : List ℕ) (n : ℕ) : Type 0 wh
   pub pair : (i : ℕ) → i < n → In (byteTask bytes i) (ls (byteLevel bytes i))
   pub every : (l k : ℕ) → In k (ls l) → (i : ℕ) × (i < n) × (l ≡ byteLevel bytes i) × (k ≡ byteTask bytes i)
 
-pub listing-read : {s : Lists} {ls : ℕ → List ℕ} → Stores s ls → (before after : List ℕ) (end : ℕ) → ListedFrom before 0 (bytesOf ls) end after
-    → Read ls after (end / 2)
-listing-read {ls = ls} st before after end w =
+pub listing-read : {s : Lists} {ls : ℕ → List ℕ} → Stores s ls → (before after : List ℕ) (end : ℕ) → length (bytesOf ls) ≤ length before
+    → Puts before 0 (bytesOf ls) end after → Read ls after (end / 2)
+listing-read {ls = ls} st before after end room w =
     let half : end / 2 ≡ length (listing ls) = omega (arith, w .size, bytes-twice ls) in
-    rw (half, w .buffer) (read (drop (length (bytesOf ls)) before))
+    rw (half, puts-written room w) (read (drop (length (bytesOf ls)) before))
   where
     read : (rest : List ℕ) → Read ls (bytesOf ls ++ rest) (length (listing ls))
     read rest =
@@ -143,7 +143,7 @@ listing-read {ls = ls} st before after end w =
 
 -- ---- nobody waits
 
-module _ (ls : ℕ → List ℕ) {before after : List ℕ} {end : ℕ} (listed : ListedFrom before 0 (bytesOf ls) end after) where
+module _ (ls : ℕ → List ℕ) {before after : List ℕ} {end : ℕ} (listed : Puts before 0 (bytesOf ls) end after) where
   pub none-listed : end ≡ 0 → listing ls ≡ []
   none-listed e = long-none (listing ls) (omega (arith, listed .size, bytes-twice ls))
 

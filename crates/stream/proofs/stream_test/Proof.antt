@@ -1,12 +1,13 @@
 use mathlib.Core.Path.{sym, _∙_}
 use native.Mathlib.Omega.{arith}
 use borrow.Author.Needs.{needs}
-use Rattle.stream.proofs.Tests.{too-long, short-enough}
+use Rattle.rules.proofs.Readable.{stream-numbers}
+use Rattle.stream.proofs.Tests.{short-enough}
 use Rattle.stream.proofs.stream_test.Statement.{statement}
 use Rattle.stream.proofs.stream_test.Tie as tie
 
 returns : tie.Need-returns
-returns c = sym (too-long (c .before .before .args .stream .now) (omega arith))
+returns c = sym (stream-numbers (c .before .before .args .stream .now) .number-14 .1 (omega arith))
 
 records-test-requires : tie.Need-records-test-requires
 records-test-requires c κs = search needs

@@ -1,14 +1,15 @@
 use mathlib.Core.Path.{_≡_, ap}
-use Prim.Native.Nat.{_*_, _/_}
+use Prim.Native.Nat.{ℕ, _*_, _/_}
 use native.Mathlib.Omega.{arith}
 use borrow.Author.Needs.{needs}
-use lib.ListN.{length, replicate}
+use lib.ListN.{length, replicate, length-replicate}
+use Rattle.laws.specs.Words.{Puts}
 use Rattle.laws.proofs.Arrays.{long-map}
 use Rattle.laws.proofs.Bools.{decides-same}
 use Rattle.rules.specs.Table.{most}
 use Rattle.rules.specs.Listing.{bytesOf}
 use Rattle.table.proofs.Tests.{few-passed}
-use Rattle.lists.specs.Answers.{whoIn, ListedFrom}
+use Rattle.lists.specs.Answers.{whoIn}
 use Rattle.lists.specs.Held.{listAt}
 use Rattle.lists.proofs.Walks.{lists-held}
 use Rattle.whole.proofs.Reading.{Read, listing-room, listing-read, none-listed, listed-none}
@@ -19,11 +20,13 @@ use Rattle.whole.proofs.queue_whole.Tie as tie
 long : (c : tie.Start) → length (c .args .tasks .table .tasks) ≡ most
 long c = search (needs, long-map)
 
-listed : (c : tie.After-list-all) → ListedFrom (replicate (2 * most) 0) 0 (bytesOf (listAt (c .before .before .before .args .ready .lists))) (c .list-all .result) (c .list-all .last .1 .0)
+listed : (c : tie.After-list-all) → Puts (replicate (2 * most) 0) 0 (bytesOf (listAt (c .before .before .before .args .ready .lists))) (c .list-all .result) (c .list-all .last .1 .0)
 listed c = c .list-all .ensures _ (lists-held (c .before .before .before .pre .links .stores))
 
 read : (c : tie.After-list-all) → Read (listAt (c .before .before .before .args .ready .lists)) (c .list-all .last .1 .0) (c .list-all .result / 2)
-read c = listing-read (lists-held (c .before .before .before .pre .links .stores)) _ _ _ (listed c)
+read c =
+    let stored = lists-held (c .before .before .before .pre .links .stores) in
+    listing-read stored _ _ _ (omega (arith, listing-room stored, length-replicate {A = ℕ} (2 * most) 0)) (listed c)
 
 slice-aggregate-list-all : tie.Need-slice-aggregate-list-all
 slice-aggregate-list-all c = search needs

@@ -4,7 +4,7 @@ use native.Mathlib.Omega.{arith}
 use borrow.Author.Needs.{needs}
 use Rattle.rules.specs.Table.{most}
 use Rattle.lists.specs.Links.{Stores}
-use Rattle.lists.proofs.Passes.{Listing, listing-start, listing-room, listing-turn, listing-size, listing-end}
+use Rattle.lists.proofs.Passes.{Listing, listing-start, listing-room, listing-turn, listing-end}
 use Rattle.lists.proofs.Lists.list_all.Statement.{statement}
 use Rattle.lists.proofs.Lists.list_all.Tie as tie
 
@@ -34,19 +34,13 @@ loop-less : tie.Need-loop-less Inv-loop μ-loop
 loop-less c = search needs
 
 loop-again : tie.Need-loop-again Inv-loop μ-loop
-loop-again c =
-    let p = c .before .before .before .before .before .before .before .pre in let inv = c .before .before .before .before .before .loop .inv in
-    let now = inv (p .lists) (p .stores) in let listed = c .before .before .list-into .ensures in
-    λ ls st. listing-turn (inv ls st) (omega arith) (listed ls st)
-    (omega (arith, listing-room now (omega arith), now .filling .size, p .room, listed (p .lists) (p .stores) .size))
+loop-again c = λ ls st. listing-turn (c .before .before .before .before .before .loop .inv ls st) (omega arith) (c .before .before .list-into .ensures ls st)
 
 same-length : tie.Need-same-length Inv-loop μ-loop
 same-length c = let p = c .before .before .before .pre in c .before .loop .inv (p .lists) (p .stores) .filling .size
 
 returns : tie.Need-returns Inv-loop μ-loop
-returns c =
-    let p = c .before .before .before .pre in let now = c .before .loop .inv (p .lists) (p .stores) in
-    λ ls st. listing-end (c .before .loop .inv ls st) (omega arith) (omega (arith, listing-size now (omega arith), p .room))
+returns c = λ ls st. listing-end (c .before .loop .inv ls st) (omega arith)
 
 pub list-all-spec : {M : Type 1} → statement M
 list-all-spec =

@@ -6,7 +6,7 @@ use borrow.Author.Needs.{needs}
 use lib.ListN.{length, length-set}
 use Rattle.lists.specs.Links.{Stores}
 use Rattle.lists.specs.Links as links
-use Rattle.lists.proofs.Rests.{Writing, writing-start, writing-task, writing-room, writing-turn, writing-size, writing-end}
+use Rattle.lists.proofs.Rests.{Writing, writing-start, writing-task, writing-room, writing-turn, writing-end}
 use Rattle.lists.proofs.Lists.list_into.Statement.{statement}
 use Rattle.lists.proofs.Lists.list_into.Tie as tie
 
@@ -65,9 +65,7 @@ same-length : tie.Need-same-length Inv-loop μ-loop
 same-length c = let p = c .before .before .before .before .before .pre in c .before .before .loop .inv (p .lists) (p .stores) .filling .size
 
 returns : tie.Need-returns Inv-loop μ-loop
-returns c =
-    let p = c .before .before .before .before .before .pre in let now = c .before .before .loop .inv (p .lists) (p .stores) in
-    λ ls st. writing-end (c .before .before .loop .inv ls st) (c .if1 .left) (omega (arith, writing-size now (c .if1 .left)))
+returns c = λ ls st. writing-end (c .before .before .loop .inv ls st) (c .if1 .left)
 
 pub list-into-spec : {M : Type 1} → statement M
 list-into-spec =

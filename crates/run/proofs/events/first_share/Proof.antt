@@ -20,7 +20,7 @@ first : (c : tie.After-struct-known2)
     → let a = c .before .before .before .before .before .before .before .args in c .before .first-level .result .0 ≡ firstLevel (tableOf (a .t1 .table)) (a .task .0)
 first c =
     let s = c .before .before .before .before .before .before .before in let a = s .args in
-    c .before .first-level .ensures (tableOf (a .t1 .table)) (s .pre .copy) (table-length (a .t1 .table) (long s))
+    c .before .first-level .ensures (tableOf (a .t1 .table)) (s .pre .laid .copy) (table-length (a .t1 .table) (long s))
     ∙ laid-first (a .t1) (a .task .0) (s .pre) (long s)
 
 cast-i : tie.Need-cast-i

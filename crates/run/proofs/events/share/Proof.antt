@@ -23,7 +23,7 @@ enum-told-4 c = search needs
 first-share-requires : tie.Need-first-share-requires
 first-share-requires c κs =
     let p = c .before .before .before .before .before .pre in
-    record { copy = p .laid .copy; task = p .task _ _ _ _ _ (ap callIn (c .before .before .before .event .given .1)) (ap answerIn (c .enum-told4 .given .1)) }
+    record { laid = p .laid; task = p .task _ _ _ _ _ (ap callIn (c .before .before .before .event .given .1)) (ap answerIn (c .enum-told4 .given .1)) }
 
 returns : tie.Need-returns
 returns c = search needs

@@ -40,7 +40,7 @@ task-line-requires : tie.Need-task-line-requires Inv-loop μ-loop
 task-line-requires c κs =
     let s = c .before .before .before .before in let i = c .before .before .loop .inv in
     let in-table : c .before .before .loop .k ≤ length (tableOf (s .args .tasks .table)) = omega (arith, counted s, i .1, c .before .loop-test .taken) in (
-      record { copy = s .pre .0 .copy; task = le-both (i .0 .low, in-table) },
+      record { laid = s .pre .0; task = le-both (i .0 .low, in-table) },
       omega (arith, planning-room _ _ (i .0) (omega (arith, counted s, few s)) in-table, i .0 .same, s .pre .1),
     )
 

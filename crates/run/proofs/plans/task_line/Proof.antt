@@ -43,7 +43,7 @@ cast-plan-line c = search needs
 plan-line-requires : tie.Need-plan-line-requires
 plan-line-requires c κs =
     let s = c .before .before .before .before .before .before .before .before .before .before .before .before in let a = s .args in
-    let few = laid-few (a .t1) (a .task .0) (s .pre .0) (long s) _ (c .before .before .plan-of .ensures (tableOf (a .t1 .table)) (s .pre .0 .copy) (table-length (a .t1 .table) (long s))) in
+    let few = laid-few (a .t1) (a .task .0) (s .pre .0) (long s) _ (c .before .before .plan-of .ensures (tableOf (a .t1 .table)) (s .pre .0 .laid .copy) (table-length (a .t1 .table) (long s))) in
     (few, omega (arith, few, s .pre .1))
 
 same-length : tie.Need-same-length
@@ -52,8 +52,8 @@ same-length c = search needs
 returns : tie.Need-returns
 returns c =
     let s = c .before .before .before .before .before .before .before .before .before .before .before .before .before .before .before in let a = s .args in
-    let plan = c .before .before .before .before .before .plan-of .ensures (tableOf (a .t1 .table)) (s .pre .0 .copy) (table-length (a .t1 .table) (long s)) in
-    let level = c .before .before .before .before .before .before .before .before .first-level .ensures (tableOf (a .t1 .table)) (s .pre .0 .copy) (table-length (a .t1 .table) (long s)) ∙ laid-first (a .t1) (a .task .0) (s .pre .0) (long s) in
+    let plan = c .before .before .before .before .before .plan-of .ensures (tableOf (a .t1 .table)) (s .pre .0 .laid .copy) (table-length (a .t1 .table) (long s)) in
+    let level = c .before .before .before .before .before .before .before .before .first-level .ensures (tableOf (a .t1 .table)) (s .pre .0 .laid .copy) (table-length (a .t1 .table) (long s)) ∙ laid-first (a .t1) (a .task .0) (s .pre .0) (long s) in
     let put = c .before .before .plan-line .ensures in (
       puts-as (ap₂ (λ (l : ℕ) (ps : List Point). planText (record { task = a .task .0; level = l; points = ps })) level (laid-points (a .t1) (a .task .0) (s .pre .0) (long s) _ plan)) (put .0),
       omega (arith, put .1, laid-few (a .t1) (a .task .0) (s .pre .0) (long s) _ plan),
