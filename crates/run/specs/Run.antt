@@ -7,7 +7,7 @@ use lib.Dec.{leb}
 use lib.ListN.{length}
 use Rattle.laws.specs.Words.{Puts}
 use Rattle.rules.specs.Numbers.{Passed, firstOf}
-use Rattle.rules.specs.Table.{Task, most, isTask}
+use Rattle.rules.specs.Table.{Task, isTask}
 use Rattle.rules.specs.Levels.{firstLevel, planOf}
 use Rattle.rules.specs.Calls.{Call, Release, Answer, Accepted, Margin, movesIn, startOf, Step, stepOf}
 use Rattle.rules.specs.State.{Running}

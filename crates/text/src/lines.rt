@@ -5,7 +5,6 @@
 //     E count answer running moves waiting margin
 //     S total bound
 ghost use Prim.Native.Nat.{_+_, _≤_};
-ghost use mathlib.Core.Path.{_≡_};
 ghost use lib.ListN.{length};
 ghost use Rattle.laws.specs.Words.{Puts};
 ghost use Rattle.rules.specs.Table.{most};

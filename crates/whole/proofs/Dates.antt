@@ -5,7 +5,6 @@ use mathlib.Core.List.{List}
 use Prim.Native.Nat.{ℕ, _≤_}
 use native.Mathlib.Omega.{arith}
 use borrow.Author.Tests.{leb-true, le-leb, not-true}
-use lib.Dec.{leb}
 use lib.ListN.{length}
 use Rattle.laws.specs.Words.{pick}
 use Rattle.laws.proofs.Bools.{clash, true-false, both-le, le-both}

@@ -1,7 +1,6 @@
-use mathlib.Core.Path.{_≡_, ap}
+use mathlib.Core.Path.{ap}
 use native.Mathlib.Omega.{arith}
 use borrow.Author.Needs.{needs}
-use Rattle.laws.proofs.Buffers.{puts-as}
 use Rattle.table.specs.Stored.{verdictIn}
 use Rattle.table.proofs.Tests.{not-sound}
 use Rattle.run.proofs.Output.{table-sound, table-refused, numbers-put}
