@@ -2,7 +2,7 @@
 //! call leaves every byte.
 
 use crate::judge;
-use crate::library::{self, Block, BYTES};
+use crate::library::{self, Block, BLOCK_BYTES};
 use crate::model::{table_tests, Call, Kernel, Task};
 use crate::random::Dice;
 use crate::sequences::{sequence, spoilt_table, Sequence};
@@ -78,9 +78,9 @@ pub fn fifteen(block: &[u8], calls: &[Call]) -> Result<(), String> {
 /// A refused start writes nothing.
 fn refused_start(table: &[Task], reading: u32) -> Result<(), String> {
     let Err(want) = table_tests(table) else { return Ok(()) };
-    let mut block = [UNTOUCHED; BYTES];
+    let mut block = [UNTOUCHED; BLOCK_BYTES];
     let said = library::start(&written(table, &[]), reading, &mut block);
-    if said != want || block != [UNTOUCHED; BYTES] {
+    if said != want || block != [UNTOUCHED; BLOCK_BYTES] {
         return Err(format!("start on a bad table: the model has {want:?} and nothing written, the library {said:?}"));
     }
     Ok(())
@@ -88,7 +88,7 @@ fn refused_start(table: &[Task], reading: u32) -> Result<(), String> {
 
 /// Bytes that are too few or too many are no whole block.
 fn other_lengths(table: &[Task], reading: u32) -> Result<(), String> {
-    for length in [0, 1, BYTES - 1, BYTES + 1] {
+    for length in [0, 1, BLOCK_BYTES - 1, BLOCK_BYTES + 1] {
         let mut bytes = vec![UNTOUCHED; length];
         let said = library::start(&written(table, &[]), reading, &mut bytes);
         if said != (15, 0) {
@@ -101,7 +101,7 @@ fn other_lengths(table: &[Task], reading: u32) -> Result<(), String> {
 
 /// The kernel of a start that is accepted, and its block.
 pub fn start_agrees(table: &[Task], reading: u32) -> Result<(Block, Kernel), String> {
-    let mut block = [UNTOUCHED; BYTES];
+    let mut block = [UNTOUCHED; BLOCK_BYTES];
     let kernel = Kernel::start(table, reading).expect("a sound table");
     let said = library::start(&written(table, &[]), reading, &mut block);
     if said != (0, 0) || !holds(&block, &kernel) {

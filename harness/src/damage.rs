@@ -3,7 +3,7 @@
 
 use crate::calls::{call_agrees, fifteen, listing_agrees, start_agrees};
 use crate::judge::kernel_of;
-use crate::library::{self, Block, BYTES};
+use crate::library::{self, Block, BLOCK_BYTES};
 use crate::model::{Call, Kernel, MOST};
 use crate::random::Dice;
 use crate::sequences::{sequence_of, sound_table_of};
@@ -67,10 +67,10 @@ fn without_running(block: &Block) -> Block {
 fn other_damage(dice: &mut Dice, block: &Block) -> Block {
     let mut damaged = *block;
     if dice.percent(50) {
-        flip(&mut damaged, dice.below(BYTES as u64 * 8) as usize);
-        flip(&mut damaged, dice.below(BYTES as u64 * 8) as usize);
+        flip(&mut damaged, dice.below(BLOCK_BYTES as u64 * 8) as usize);
+        flip(&mut damaged, dice.below(BLOCK_BYTES as u64 * 8) as usize);
     } else {
-        let mut place = || dice.between(TABLE_BYTES as u64, BYTES as u64 - 1) as usize;
+        let mut place = || dice.between(TABLE_BYTES as u64, BLOCK_BYTES as u64 - 1) as usize;
         damaged.swap(place(), place());
     }
     damaged
@@ -105,7 +105,7 @@ fn damages(dice: &mut Dice, counts: &mut Counts) -> Result<(), String> {
     let mut ask = |what: String, damaged: Block| {
         compare(&damaged, &calls, counts).map_err(|why| format!("{what}: {why}\nthe block before: {block:02x?}\nand then: {damaged:02x?}"))
     };
-    for bit in 0..BYTES * 8 {
+    for bit in 0..BLOCK_BYTES * 8 {
         let mut damaged = block;
         flip(&mut damaged, bit);
         ask(format!("byte {} bit {}", bit / 8, bit % 8), damaged)?;
@@ -122,8 +122,8 @@ pub fn check(seed: u64, count: u64) -> Result<String, String> {
     let Counts { damages, whole, accepted } = counts;
     Ok(format!(
         "{count} blocks, {} bits flipped and {} other damages: {} not whole and 15; {whole} whole still, on which {accepted} calls were accepted",
-        count * BYTES as u64 * 8,
-        damages - count * BYTES as u64 * 8,
+        count * BLOCK_BYTES as u64 * 8,
+        damages - count * BLOCK_BYTES as u64 * 8,
         damages - whole
     ))
 }

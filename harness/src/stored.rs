@@ -1,6 +1,6 @@
 //! What the bytes of a block say, field by field. Numbers are little-endian.
 
-use crate::library::{Block, BYTES};
+use crate::library::{Block, BLOCK_BYTES};
 use crate::model::{Task, MOST};
 
 /// The count, the tasks and the copy of the deadlines stand first.
@@ -84,7 +84,7 @@ impl Stored {
             clock: fields.long(),
             reading: fields.word(),
         };
-        assert!(fields.0.is_empty(), "a block has {BYTES} bytes");
+        assert!(fields.0.is_empty(), "a block has {BLOCK_BYTES} bytes");
         stored
     }
 }

@@ -7,12 +7,12 @@ ghost use Rattle.kernel.specs.Block.{Whole};
 ghost use Rattle.kernel.specs.Answers.{answerIn};
 ghost use Rattle.kernel.specs.Calls.{Gives, Does};
 ghost use Rattle.bench.specs.Sums.{callBy, namedIn, Sums};
-use image::BYTES;
+use image::BLOCK_BYTES;
 use image::load;
 use kernel::Answer;
 use kernel::Block;
 use kernel::Called;
-use table::TaskNo;
+use kernel::TaskNo;
 
 fn wide(n: u8) -> u64
     ensures { λ r. ⌜ (r ≡ n) × (r ≤ 255) ⌝ }
@@ -66,7 +66,7 @@ fn call_whole(block: Block, kind: u8, reading: u32, task: u8) -> Called
 pub extern "C" fn bench_calls(block: &[u8], kind: u8, reading: u32, task: u8, times: u32) -> u64
     ensures { λ r. ⌜ Sums (now (block .entry)) (callBy kind reading task) times r ⌝ }
 {
-    if block.len() != BYTES {
+    if block.len() != BLOCK_BYTES {
         return 0;
     }
     let kept = load(block);
@@ -91,7 +91,7 @@ pub extern "C" fn bench_calls(block: &[u8], kind: u8, reading: u32, task: u8, ti
 pub extern "C" fn bench_inner(block: &[u8], kind: u8, reading: u32, task: u8, times: u32) -> u64
     ensures { λ r. ⌜ Sums (now (block .entry)) (callBy kind reading task) times r ⌝ }
 {
-    if block.len() != BYTES {
+    if block.len() != BLOCK_BYTES {
         return 0;
     }
     let kept = load(block);

@@ -4,12 +4,12 @@ ghost use Rattle.rules.specs.Calls.{Release};
 ghost use Rattle.kernel.specs.Calls.{Follows};
 use kernel::Answer;
 use kernel::Block;
+use kernel::MOST;
+use kernel::Table;
+use kernel::Task;
+use kernel::TaskNo;
 use kernel::start::start;
 use lent::release_through;
-use table::MOST;
-use table::Table;
-use table::Task;
-use table::TaskNo;
 
 fn main() {
     paper();

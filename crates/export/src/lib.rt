@@ -1,5 +1,5 @@
 // What Rust and C may link, over byte slices and numbers; none asks anything of its arguments. The caller keeps the block as bytes, which
-// `image` lays out; bytes of another length than BYTES are no whole block, and get 15.
+// `image` lays out; bytes of another length than BLOCK_BYTES are no whole block, and get 15.
 //
 //     meter_run          the runner's whole output for a stream
 //     meter_start        a block from the task records of a stream
@@ -13,20 +13,20 @@ ghost use Rattle.rules.specs.Calls.{Release, Done, Clock};
 ghost use Rattle.kernel.specs.Answers.{marginIn};
 ghost use Rattle.run.specs.Run.{Runs};
 ghost use Rattle.export.specs.Door.{kindOf, ticksOf, BlockSized, Answers, TellsStart, TellsListing, Tells, TellsWhole};
-use image::BYTES;
+use image::BLOCK_BYTES;
 use image::load;
 use image::save;
 use kernel::Answer;
 use kernel::Called;
 use kernel::Margin;
+use kernel::TaskNo;
+use kernel::Verdict;
 use kernel::asks::Listed;
 use kernel::start::start;
 use run::run;
 use stream::Stream;
 use stream::stream_test;
 use stream::table_in;
-use table::TaskNo;
-use table::Verdict;
 use text::below_zero;
 
 // The output's length; 0, and nothing is written, where `out` has less than 2 MiB.
@@ -42,8 +42,8 @@ pub extern "C" fn meter_run(stream: &[u8], out: &mut [u8]) -> usize
 pub extern "C" fn meter_start(stream: &[u8], reading: u32, block: &mut [u8]) -> usize
     ensures { λ r. ⌜ TellsStart (now (stream .entry)) reading (now (block .entry)) r (now (block .exit)) ⌝ }
 {
-    if block.len() != BYTES {
-        return 15;
+    if block.len() != BLOCK_BYTES {
+        return refusals::NOT_WHOLE as usize;
     }
     let tested = stream_test(stream);
     if let Stream::Readable = tested {
@@ -92,7 +92,7 @@ fn ticks_of(margin: Margin) -> u64
 
 // The number of what a call gave back. Where it was accepted, the block is stored, and the answer: who runs (0 nobody), moves, the margin's
 // kind and its ticks.
-fn stored(called: Called, block: &mut [u8], answer: &mut [u64; 4]) -> u8
+fn answered(called: Called, block: &mut [u8], answer: &mut [u64; 4]) -> u8
     requires { ⌜ BlockSized (now block) ⌝ }
     ensures { λ r. ⌜ Answers called (now (block .entry)) (now (answer .entry)) r (now (block .exit)) (now (answer .exit)) ⌝ }
 {
@@ -127,33 +127,33 @@ pub extern "C" fn meter_release(
 ) -> u8
     ensures { λ r. ⌜ Tells (Release reading task) (now (block .entry)) (now (answer .entry)) r (now (block .exit)) (now (answer .exit)) ⌝ }
 {
-    if block.len() != BYTES {
-        return 15;
+    if block.len() != BLOCK_BYTES {
+        return refusals::NOT_WHOLE;
     }
     let called = load(block).release(reading, TaskNo(task));
-    stored(called, block, answer)
+    answered(called, block, answer)
 }
 
 #[no_mangle]
 pub extern "C" fn meter_done(block: &mut [u8], reading: u32, task: u8, answer: &mut [u64; 4]) -> u8
     ensures { λ r. ⌜ Tells (Done reading task) (now (block .entry)) (now (answer .entry)) r (now (block .exit)) (now (answer .exit)) ⌝ }
 {
-    if block.len() != BYTES {
-        return 15;
+    if block.len() != BLOCK_BYTES {
+        return refusals::NOT_WHOLE;
     }
     let called = load(block).done(reading, TaskNo(task));
-    stored(called, block, answer)
+    answered(called, block, answer)
 }
 
 #[no_mangle]
 pub extern "C" fn meter_clock(block: &mut [u8], reading: u32, answer: &mut [u64; 4]) -> u8
     ensures { λ r. ⌜ Tells (Clock reading) (now (block .entry)) (now (answer .entry)) r (now (block .exit)) (now (answer .exit)) ⌝ }
 {
-    if block.len() != BYTES {
-        return 15;
+    if block.len() != BLOCK_BYTES {
+        return refusals::NOT_WHOLE;
     }
     let called = load(block).clock(reading);
-    stored(called, block, answer)
+    answered(called, block, answer)
 }
 
 // The number waiting; or 256 times the number of the refusal.
@@ -161,8 +161,8 @@ pub extern "C" fn meter_clock(block: &mut [u8], reading: u32, answer: &mut [u64;
 pub extern "C" fn meter_listing(block: &[u8], buffer: &mut [u8]) -> usize
     ensures { λ r. ⌜ TellsListing (now (block .entry)) (now (buffer .entry)) r (now (buffer .exit)) ⌝ }
 {
-    if block.len() != BYTES {
-        return 256 * 15;
+    if block.len() != BLOCK_BYTES {
+        return 256 * refusals::NOT_WHOLE as usize;
     }
     let listed = load(block).listing(buffer);
     match listed {
@@ -176,7 +176,7 @@ pub extern "C" fn meter_listing(block: &[u8], buffer: &mut [u8]) -> usize
 pub extern "C" fn meter_whole(block: &[u8]) -> u8
     ensures { λ r. ⌜ TellsWhole (now (block .entry)) r ⌝ }
 {
-    if block.len() != BYTES {
+    if block.len() != BLOCK_BYTES {
         return 0;
     }
     if load(block).whole() {

@@ -18,13 +18,13 @@ ghost use Prim.Native.Nat.{_≤_};
 ghost use lib.ListN.{length};
 ghost use Rattle.laws.specs.Words.{written};
 ghost use Rattle.image.specs.Bytes.{size, bytesOf, blockIn};
-use jobs::PLACES;
 use kernel::Block;
 use put::put_jobs;
 use put::put_now;
 use put::put_ready;
 use put::put_tasks;
 use table::MOST;
+use table::PLACES;
 use take::jobs_at;
 use take::now_at;
 use take::ready_at;
@@ -41,9 +41,9 @@ const READY: usize = JOBS + 10 * PLACES;
 const NOW: usize = READY + 2 + 3 * PLACES + 4;
 
 // How many bytes a block has.
-pub const BYTES: usize = NOW + 12;
+pub const BLOCK_BYTES: usize = NOW + 12;
 
-// The block into the first BYTES of the buffer; those behind stay.
+// The block into the first BLOCK_BYTES of the buffer; those behind stay.
 pub fn save(block: Block, bytes: &mut [u8])
     requires { ⌜ size ≤ length (now bytes) ⌝ }
     ensures { λ _. ⌜ now (bytes .exit) ≡ written (bytesOf block) (now (bytes .entry)) ⌝ }

@@ -7,18 +7,18 @@ ghost use Rattle.image.specs.Bytes.{little, allBytes, taskBytes, tasksBy
 ghost use Rattle.image.specs.Bytes.{readyBytes, nowBytes, tasksSize, storedSize, readySize};
 use jobs::Job;
 use jobs::Last;
-use jobs::PLACES;
 use jobs::Tasks;
 use kernel::Now;
 use lists::Stored;
 use lists::Who;
 use ready::Ready;
 use table::MOST;
+use table::PLACES;
 use table::Task;
 use table::TaskNo;
 
 // A number in so many bytes, the lowest first.
-fn put_number(bytes: &mut [u8], at: usize, size: usize, n: u64)
+fn put_little(bytes: &mut [u8], at: usize, size: usize, n: u64)
     requires { ⌜ at + size ≤ length (now bytes) ⌝ }
     ensures { λ _. ⌜ Puts (now (bytes .entry)) at (little size n) (at + size) (now (bytes .exit)) ⌝ }
 {
@@ -33,9 +33,9 @@ fn put_task(bytes: &mut [u8], at: usize, task: Task)
     requires { ⌜ at + 12 ≤ length (now bytes) ⌝ }
     ensures { λ _. ⌜ Puts (now (bytes .entry)) at (taskBytes task) (at + 12) (now (bytes .exit)) ⌝ }
 {
-    put_number(bytes, at, 4, task.c as u64);
-    put_number(bytes, at + 4, 4, task.d as u64);
-    put_number(bytes, at + 8, 4, task.t as u64);
+    put_little(bytes, at, 4, task.c as u64);
+    put_little(bytes, at + 4, 4, task.d as u64);
+    put_little(bytes, at + 8, 4, task.t as u64);
 }
 
 fn put_entries(bytes: &mut [u8], at: usize, tasks: [Task; MOST])
@@ -53,7 +53,7 @@ fn put_numbers(bytes: &mut [u8], at: usize, numbers: [u32; MOST])
     ensures { λ _. ⌜ Puts (now (bytes .entry)) at (allBytes (little 4) numbers) (at + 4 * most) (now (bytes .exit)) ⌝ }
 {
     for i in 0..MOST {
-        put_number(bytes, at + 4 * i, 4, numbers[i] as u64);
+        put_little(bytes, at + 4 * i, 4, numbers[i] as u64);
     }
 }
 
@@ -63,7 +63,7 @@ pub fn put_tasks(bytes: &mut [u8], at: usize, tasks: Tasks)
     ensures { λ _. ⌜ Puts (now (bytes .entry)) at (tasksBytes tasks) (at + tasksSize) (now (bytes .exit)) ⌝ }
 {
     let table = tasks.table;
-    put_number(bytes, at, 8, table.count as u64);
+    put_little(bytes, at, 8, table.count as u64);
     let entries = table.tasks;
     put_entries(bytes, at + 8, entries);
     let rising = tasks.rising;
@@ -78,11 +78,11 @@ fn put_last(bytes: &mut [u8], at: usize, last: Last)
     match last {
         Last::Never => {
             bytes[at] = 0; // never
-            put_number(bytes, at + 1, 8, 0);
+            put_little(bytes, at + 1, 8, 0);
         }
         Last::At(time) => {
             bytes[at] = 1;
-            put_number(bytes, at + 1, 8, time);
+            put_little(bytes, at + 1, 8, time);
         }
     }
 }
@@ -144,7 +144,7 @@ fn put_stored(bytes: &mut [u8], at: usize, stored: Stored)
     put_places(bytes, at + PLACES, last);
     let next = stored.next;
     put_places(bytes, at + 2 * PLACES, next);
-    put_number(bytes, at + 3 * PLACES, 4, stored.map as u64);
+    put_little(bytes, at + 3 * PLACES, 4, stored.map as u64);
 }
 
 // Who runs and who waits.
@@ -162,6 +162,6 @@ pub fn put_now(bytes: &mut [u8], at: usize, time: Now)
     requires { ⌜ at + 12 ≤ length (now bytes) ⌝ }
     ensures { λ _. ⌜ Puts (now (bytes .entry)) at (nowBytes time) (at + 12) (now (bytes .exit)) ⌝ }
 {
-    put_number(bytes, at, 8, time.clock);
-    put_number(bytes, at + 8, 4, time.reading as u64);
+    put_little(bytes, at, 8, time.clock);
+    put_little(bytes, at + 8, 4, time.reading as u64);
 }

@@ -15,11 +15,9 @@ use levels::level_in;
 use levels::remaining;
 use table::Level;
 use table::MOST;
+use table::PLACES;
 use table::Table;
 use table::TaskNo;
-
-// A place for each task, and place 0.
-pub const PLACES: usize = MOST + 1;
 
 // A task's last accepted release: never, or at this time.
 pub enum Last {

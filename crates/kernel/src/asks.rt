@@ -30,8 +30,8 @@ impl Listed {
     {
         match self {
             Listed::Waiting(_) => 0,
-            Listed::BufferTooShort => 11,
-            Listed::NotWhole => 15,
+            Listed::BufferTooShort => refusals::BUFFER_TOO_SHORT,
+            Listed::NotWhole => refusals::NOT_WHOLE,
         }
     }
 }

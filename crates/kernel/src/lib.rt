@@ -28,12 +28,21 @@ ghost use Rattle.kernel.specs.Block.{Whole};
 ghost use Rattle.kernel.specs.Answers.{refusalIn};
 ghost use Rattle.kernel.specs.Calls.{Gives};
 use jobs::Job;
-use jobs::PLACES;
 use jobs::Tasks;
-use lists::Who;
 use ready::Ready;
-use table::TaskNo;
+use table::PLACES;
 use whole::is_whole;
+
+// What a user of the calls names beside them, so that it is named by one crate.
+pub use levels::Plan;
+pub use levels::Point;
+pub use lists::Who;
+pub use table::Level;
+pub use table::MOST;
+pub use table::Table;
+pub use table::Task;
+pub use table::TaskNo;
+pub use table::Verdict;
 
 pub mod start; // start
 mod tests; // tests 5 to 10
@@ -76,13 +85,13 @@ impl Refusal {
         ensures { λ r. ⌜ r ≡ numberOf (refusalIn self) ⌝ }
     {
         match self {
-            Refusal::CounterWentBack => 5,
-            Refusal::ClockFull => 6,
-            Refusal::NoSuchTask => 7,
-            Refusal::TaskActive => 8,
-            Refusal::TooSoon => 9,
-            Refusal::NotRunning => 10,
-            Refusal::NotWhole => 15,
+            Refusal::CounterWentBack => refusals::COUNTER_WENT_BACK,
+            Refusal::ClockFull => refusals::CLOCK_FULL,
+            Refusal::NoSuchTask => refusals::NO_SUCH_TASK,
+            Refusal::TaskActive => refusals::TASK_ACTIVE,
+            Refusal::TooSoon => refusals::TOO_SOON,
+            Refusal::NotRunning => refusals::NOT_RUNNING,
+            Refusal::NotWhole => refusals::NOT_WHOLE,
         }
     }
 }

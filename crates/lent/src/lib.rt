@@ -5,7 +5,7 @@ ghost use Rattle.kernel.specs.Calls.{Gives};
 use kernel::Answer;
 use kernel::Block;
 use kernel::Called;
-use table::TaskNo;
+use kernel::TaskNo;
 
 pub fn release(block: &mut Block, reading: u32, task: TaskNo) -> Answer
     ensures { λ r. ⌜ Gives (now (block .entry)) (Release reading (task .0)) (record { answer = r; block = now (block .exit) }) ⌝ }

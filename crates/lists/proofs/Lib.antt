@@ -6,7 +6,7 @@ pub mod Walks
 pub mod Determined
 pub mod Operations
 pub mod Lowest
-pub mod Occupied
+pub mod LowestLevel
 pub mod Rests
 pub mod Passes
 pub mod Apart

@@ -12,8 +12,8 @@ use Rattle.lists.specs.declared.Stored.{Stored}
 use Rattle.lists.specs.declared.Popped.{Popped}
 use Rattle.lists.specs.declared.Who.{Who}
 use Rattle.lists.specs.declared.Who.the-variants as Who
-use Rattle.lists.specs.declared.Found.{Found}
-use Rattle.lists.specs.declared.Found.the-variants as Found
+use Rattle.lists.specs.declared.Occupied.{Occupied}
+use Rattle.lists.specs.declared.Occupied.the-variants as Occupied
 use Rattle.lists.specs.Links.{Numbered, Absent, Stores}
 
 -- ---- answers
@@ -31,9 +31,9 @@ whoIn Who.Nobody = Nobody
 whoIn (Who.One k) = One (k .0)
 
 -- a level; nothing for 0, which is what the rules' `lowest` says where there is none
-abbrev pub foundAt : ℕ → Found
-foundAt zero = Found.Nothing
-foundAt (suc l) = Found.At (record { 0 = suc l })
+abbrev pub occupiedAt : ℕ → Occupied
+occupiedAt zero = Occupied.Nothing
+occupiedAt (suc l) = Occupied.At (record { 0 = suc l })
 
 -- what a pop at level l gives: the front job, and the lists without it
 pub record PopsFrom (ls : ℕ → List ℕ) (l : ℕ) (r : Popped) : Type 0 where

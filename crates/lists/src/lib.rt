@@ -27,15 +27,12 @@ ghost use Rattle.rules.specs.Table.{most};
 ghost use Rattle.rules.specs.Calls.{toFront, toEnd, frontOf, lowest};
 ghost use Rattle.rules.specs.Lines.{taskIn};
 ghost use Rattle.lists.specs.Links.{Stores, Numbered};
-ghost use Rattle.lists.specs.Answers.{storedOf, listsOf, whoIn, foundAt, PopsFrom, frontMoved, Holds, HoldsAt, MayEnter};
+ghost use Rattle.lists.specs.Answers.{storedOf, listsOf, whoIn, occupiedAt, PopsFrom, frontMoved, Holds, HoldsAt, MayEnter};
 use table::Level;
-use table::MOST;
+use table::PLACES;
 use table::TaskNo;
 
 mod walk; // length_of, waiting, list_into, list_all
-
-// A place for each task and each level, and place 0.
-pub const PLACES: usize = MOST + 1;
 
 pub struct Lists {
     first: [TaskNo; PLACES],
@@ -71,7 +68,7 @@ impl Who {
 }
 
 // A level, where there is one.
-pub enum Found {
+pub enum Occupied {
     Nothing,
     At(Level),
 }
@@ -236,23 +233,23 @@ impl Lists {
     }
 
     // The lowest level, from this one up, whose list holds a job.
-    pub fn lowest_from(self, level: Level) -> Found
+    pub fn lowest_from(self, level: Level) -> Occupied
         requires { ⌜ HoldsAt self (level .0) ⌝ }
-        ensures { λ r. ⌜ ((ls : ℕ → List ℕ) → Stores self ls → r ≡ foundAt (lowest ls (suc most - level .0) (level .0))) ⌝ }
+        ensures { λ r. ⌜ ((ls : ℕ → List ℕ) → Stores self ls → r ≡ occupiedAt (lowest ls (suc most - level .0) (level .0))) ⌝ }
     {
         let above = self.map >> (level.0 - 1);
         if above == 0 {
-            return Found::Nothing;
+            return Occupied::Nothing;
         }
         let zeros = u32::trailing_zeros(above) as u8;
         let lowest = zeros + level.0;
-        Found::At(Level(lowest))
+        Occupied::At(Level(lowest))
     }
 
     // "the lowest-numbered list that holds one"
-    pub fn lowest(self) -> Found
+    pub fn lowest(self) -> Occupied
         requires { ⌜ Holds self ⌝ }
-        ensures { λ r. ⌜ ((ls : ℕ → List ℕ) → Stores self ls → r ≡ foundAt (lowest ls most 1)) ⌝ }
+        ensures { λ r. ⌜ ((ls : ℕ → List ℕ) → Stores self ls → r ≡ occupiedAt (lowest ls most 1)) ⌝ }
     {
         self.lowest_from(Level(1))
     }

@@ -21,7 +21,6 @@ ghost use Rattle.jobs.specs.Kept.{releasedIn, Dated};
 ghost use Rattle.queue.specs.Asked.{Datable};
 ghost use Rattle.queue.specs.Row.{Few, tasksIn, WaitsRight, AllWait, inRow, RowDated, InOrder, ActiveAs, RunsWhole};
 use jobs::Job;
-use jobs::PLACES;
 use jobs::Tasks;
 use jobs::deadline;
 use jobs::in_table;
@@ -29,11 +28,12 @@ use jobs::level_of;
 use jobs::time_of;
 use table::Level;
 use table::MOST;
+use table::PLACES;
 use table::Table;
 use table::TaskNo;
 
 // Room for the listing of all tasks.
-pub const BYTES: usize = 2 * MOST;
+pub const LISTING_BYTES: usize = 2 * MOST;
 
 // Whether all is as it should be where the job of a task runs, and n jobs wait as the bytes list them.
 pub fn runs_whole(
@@ -41,7 +41,7 @@ pub fn runs_whole(
     jobs: [Job; PLACES],
     clock: u64,
     first: TaskNo,
-    bytes: [u8; BYTES],
+    bytes: [u8; LISTING_BYTES],
     n: usize,
 ) -> bool
     requires { ⌜ Datable tasks jobs clock × Few n ⌝ }
@@ -89,7 +89,7 @@ fn all_wait(
     jobs: [Job; PLACES],
     clock: u64,
     first: TaskNo,
-    bytes: [u8; BYTES],
+    bytes: [u8; LISTING_BYTES],
     n: usize,
 ) -> bool
     requires { ⌜ Datable tasks jobs clock × Few n ⌝ }
@@ -123,7 +123,13 @@ fn may_lead(table: Table, jobs: [Job; PLACES], a: TaskNo, b: TaskNo) -> bool
 }
 
 // Whether the running job, and each that waits, may stand ahead of the next.
-fn in_order(table: Table, jobs: [Job; PLACES], first: TaskNo, bytes: [u8; BYTES], n: usize) -> bool
+fn in_order(
+    table: Table,
+    jobs: [Job; PLACES],
+    first: TaskNo,
+    bytes: [u8; LISTING_BYTES],
+    n: usize,
+) -> bool
     requires { ⌜ RowDated table jobs (first .0) bytes n × Few n ⌝ }
     ensures { λ r. ⌜ Decides r (InOrder table jobs (first .0) bytes n) ⌝ }
 {
@@ -140,7 +146,7 @@ fn in_order(table: Table, jobs: [Job; PLACES], first: TaskNo, bytes: [u8; BYTES]
 }
 
 // Who runs or waits.
-fn marks(first: TaskNo, bytes: [u8; BYTES], n: usize) -> [bool; PLACES]
+fn marks(first: TaskNo, bytes: [u8; LISTING_BYTES], n: usize) -> [bool; PLACES]
     requires { ⌜ ((i : ℕ) → i ≤ n → inRow (first .0) bytes i ≤ most) × Few n ⌝ }
     ensures { λ r. ⌜ r ≡ marked none (first .0 ∷ tasksIn bytes n) ⌝ }
 {

@@ -9,17 +9,17 @@ use Rattle.rules.specs.Calls.{lowest}
 use Rattle.rules.specs.Promotion.{drained, promoted, leaving, leavingBy}
 use Rattle.table.specs.declared.Level.{Level}
 use Rattle.lists.specs.declared.Lists.{Lists}
-use Rattle.lists.specs.declared.Found.{Found}
-use Rattle.lists.specs.declared.Found.the-variants as Found
+use Rattle.lists.specs.declared.Occupied.{Occupied}
+use Rattle.lists.specs.declared.Occupied.the-variants as Occupied
 use Rattle.lists.specs.Links.{Stores}
-use Rattle.lists.specs.Answers.{foundAt, HoldsAt}
+use Rattle.lists.specs.Answers.{occupiedAt, HoldsAt}
 use Rattle.lists.proofs.Few.{list-few}
 use Rattle.jobs.specs.declared.Job.{Job}
 use Rattle.jobs.specs.declared.Tasks.{Tasks}
 use Rattle.jobs.specs.Kept.{levelsAt, Levelled}
 use Rattle.ready.specs.declared.promotion.Promoted.{Promoted}
 use Rattle.ready.specs.Promote.{Promotable, Drainable, DrainedTo, PromotedTo}
-use Rattle.lists.proofs.Occupied.{Clear, nothing-from, level-from}
+use Rattle.lists.proofs.LowestLevel.{Clear, nothing-from, level-from}
 use Rattle.ready.proofs.Fronts.{leaving-le}
 use Rattle.ready.proofs.Placing.{drained-placed, promotable-placed, placed-promotable}
 
@@ -91,7 +91,7 @@ module _ {new : ℕ → ℕ} {ls : ℕ → List ℕ} {now : Lists} {moves l : �
   promotes-ends h = ended (all-passed new (suc most) l (w .lists) h)
 
   -- none of those that are left holds a job
-  promotes-stops : 1 ≤ l → l ≤ suc most → Found.Nothing ≡ foundAt (lowest (w .lists) (suc most - l) l) → PromotedTo new ls (record { lists = now; moves = moves })
+  promotes-stops : 1 ≤ l → l ≤ suc most → Occupied.Nothing ≡ occupiedAt (lowest (w .lists) (suc most - l) l) → PromotedTo new ls (record { lists = now; moves = moves })
   promotes-stops low high e =
       let none = nothing-from (w .lists) l high low e in
       let passed = empty-passed new (suc most) (w .lists) (suc most - l) l (suc most) (omega arith) (omega arith) (none .1) in
@@ -99,7 +99,7 @@ module _ {new : ℕ → ℕ} {ls : ℕ → List ℕ} {now : Lists} {moves l : �
       ended (passed .0 ∙ over .0, passed .1 ∙ over .1)
 
   -- the lowest of them has its turn
-  promotes-turns : l ≤ suc most → (level : Level) → Found.At level ≡ foundAt (lowest (w .lists) (suc most - l) l)
+  promotes-turns : l ≤ suc most → (level : Level) → Occupied.At level ≡ occupiedAt (lowest (w .lists) (suc most - l) l)
       → (r : Promoted) → DrainedTo new (level .0) (w .lists) r → PromotesTo new ls (r .lists) (moves + r .moves) (level .0 + 1)
   promotes-turns high level e r d =
       let at = level-from (w .lists) l high level e in
@@ -134,13 +134,13 @@ module _ {tasks : Tasks} {jobs : List Job} {time : ℕ} {before now : Lists} {mo
   pub promoting-asks : l ≤ most → HoldsAt now l
   promoting-asks h = record { lists = w .able .ls; stores = w .able .stores; level = record { low = omega (arith, w .low); high = h } }
 
-  module _ {r : Found} (said : (ls : ℕ → List ℕ) → Stores now ls → r ≡ foundAt (lowest ls (suc most - l) l)) where
-    pub promoting-stops : r ≡ Found.Nothing → (ls : ℕ → List ℕ) → Stores before ls → PromotedTo (levelsAt tasks jobs time) ls (record { lists = now; moves = moves })
+  module _ {r : Occupied} (said : (ls : ℕ → List ℕ) → Stores now ls → r ≡ occupiedAt (lowest ls (suc most - l) l)) where
+    pub promoting-stops : r ≡ Occupied.Nothing → (ls : ℕ → List ℕ) → Stores before ls → PromotedTo (levelsAt tasks jobs time) ls (record { lists = now; moves = moves })
     promoting-stops e ls st =
         let p = w .target ls st in
         promotes-stops p (omega (arith, w .low)) (w .high) (sym e ∙ said (p .lists) (p .stores))
 
-    module _ (level : Level) (e : r ≡ Found.At level) where
+    module _ (level : Level) (e : r ≡ Occupied.At level) where
       pub promoting-level : (l ≤ level .0) × (level .0 ≤ most)
       promoting-level = let at = level-from (w .able .ls) l (w .high) level (sym e ∙ said (w .able .ls) (w .able .stores)) in (at .0, at .1)
 

@@ -17,17 +17,17 @@ use Rattle.table.specs.Stored.{tableOf}
 use Rattle.lists.specs.declared.Lists.{Lists}
 use Rattle.lists.specs.declared.Popped.{Popped}
 use Rattle.lists.specs.declared.Who.the-variants as Who
-use Rattle.lists.specs.declared.Found.{Found}
-use Rattle.lists.specs.declared.Found.the-variants as Found
+use Rattle.lists.specs.declared.Occupied.{Occupied}
+use Rattle.lists.specs.declared.Occupied.the-variants as Occupied
 use Rattle.lists.specs.Links.{Stores}
-use Rattle.lists.specs.Answers.{whoIn, foundAt, PopsFrom, MayEnter}
+use Rattle.lists.specs.Answers.{whoIn, occupiedAt, PopsFrom, MayEnter}
 use Rattle.jobs.specs.declared.Job.{Job}
 use Rattle.jobs.specs.declared.Tasks.{Tasks}
 use Rattle.jobs.specs.Kept.{levelsAt}
 use Rattle.ready.specs.declared.Ready.{Ready}
 use Rattle.ready.specs.Keep.{Keeps, Keeping, Becomes, metBy, MayWait, Enterable}
 use Rattle.jobs.proofs.Keeping.{levels-low}
-use Rattle.lists.proofs.Occupied.{found-at, nothing-from, level-from}
+use Rattle.lists.proofs.LowestLevel.{found-at, nothing-from, level-from}
 
 -- ---- meeting the running job
 
@@ -75,13 +75,13 @@ leave-at : (lists : ℕ → List ℕ) (l : ℕ) → 1 ≤ l → leaveBy lists l 
 leave-at lists zero h = let z : ⊥ = omega arith in absurd z
 leave-at lists (suc l) h = refl
 
-module _ {r : Ready} {found : Found} (said : (ls : ℕ → List ℕ) → Stores (r .lists) ls → found ≡ foundAt (lowest ls most 1)) where
-  pub leaves-nobody : found ≡ Found.Nothing → Becomes r leave (record { running = Who.Nobody; lists = r .lists })
+module _ {r : Ready} {found : Occupied} (said : (ls : ℕ → List ℕ) → Stores (r .lists) ls → found ≡ occupiedAt (lowest ls most 1)) where
+  pub leaves-nobody : found ≡ Occupied.Nothing → Becomes r leave (record { running = Who.Nobody; lists = r .lists })
   leaves-nobody e x keeps =
       let none : lowest (x .lists) most 1 ≡ 0 = nothing-from (x .lists) 1 (omega arith) (omega arith) (sym e ∙ said (x .lists) (keeps .stores)) .0 in
       rw none (record { running = refl; stores = keeps .stores })
 
-  module _ (level : Level) (e : found ≡ Found.At level) where
+  module _ (level : Level) (e : found ≡ Occupied.At level) where
     pub leaves-level : Keeping r → (1 ≤ level .0) × (level .0 ≤ most)
     leaves-level keeping =
         let at = level-from (keeping .ready .lists) 1 (omega arith) level (sym e ∙ said (keeping .ready .lists) (keeping .keeps .stores)) in

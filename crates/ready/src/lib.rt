@@ -21,14 +21,14 @@ ghost use Rattle.jobs.specs.Kept.{levelsAt};
 ghost use Rattle.ready.specs.Promote.{Promotable};
 ghost use Rattle.ready.specs.Keep.{metBy, Keeping, Keeps, Becomes, Relevels, Enterable};
 use jobs::Job;
-use jobs::PLACES;
 use jobs::Tasks;
 use jobs::level_of;
-use lists::Found;
 use lists::Lists;
+use lists::Occupied;
 use lists::Who;
 use promotion::promote;
 use table::Level;
+use table::PLACES;
 use table::TaskNo;
 
 mod promotion; // promote
@@ -118,11 +118,11 @@ impl Ready {
         let lists = self.lists;
         let found = lists.lowest();
         match found {
-            Found::Nothing => Ready {
+            Occupied::Nothing => Ready {
                 running: Who::Nobody,
                 lists,
             },
-            Found::At(level) => {
+            Occupied::At(level) => {
                 let popped = lists.pop_front(level);
                 let front = popped.front;
                 let rest = popped.lists;

@@ -7,16 +7,16 @@ ghost use Rattle.lists.specs.Links.{Stores};
 ghost use Rattle.jobs.specs.Kept.{levelsAt};
 ghost use Rattle.ready.specs.Promote.{goesTo, frontGoes, Leaves, Promotable, Drainable, DrainedTo, PromotedTo};
 use jobs::Job;
-use jobs::PLACES;
 use jobs::Tasks;
 use jobs::time_left;
 use levels::has_left;
 use levels::level_in;
-use lists::Found;
 use lists::Lists;
+use lists::Occupied;
 use lists::Who;
 use table::Level;
 use table::MOST;
+use table::PLACES;
 use table::TaskNo;
 
 // No list holds more jobs than there are tasks.
@@ -92,13 +92,13 @@ pub fn promote(tasks: Tasks, jobs: [Job; PLACES], time: u64, lists: Lists) -> Pr
     while from as usize <= MOST {
         let found = now.lowest_from(Level(from));
         match found {
-            Found::Nothing => {
+            Occupied::Nothing => {
                 return Promoted {
                     lists: now,
                     moves: total,
                 };
             }
-            Found::At(level) => {
+            Occupied::At(level) => {
                 let drained = drain(tasks, jobs, time, now, level);
                 let next = drained.lists;
                 now = next;

@@ -79,17 +79,17 @@ module _ (s : List ℕ) (at : ℕ) (inside : at < length s) where
 
 -- ---- what was read is what the record of the mark says
 
-module _ (s : List ℕ) (at : ℕ) (m : Mark) where
+module _ (s : List ℕ) (at : ℕ) (m : Mark) {size : ℕ} (n : size ≡ sizeIn m) where
   pub says-task : {c d t : ℕ} → m ≡ Mark.Task → c ≡ word s (at + 2) → d ≡ word s (at + 6) → t ≡ word s (at + 10)
-      → readAs (Record.Task (record { c = c; d = d; t = t })) 14 ≡ saysIn s at m
-  says-task e p q r = rw (e, p, q, r)
+      → readAs (Record.Task (record { c = c; d = d; t = t })) size ≡ saysIn s at m
+  says-task e p q r = rw (n, e, p, q, r)
 
   module _ {reading : ℕ} (p : reading ≡ word s (at + 2)) where
-    pub says-release : m ≡ Mark.Release → readAs (Record.Event (Event.Release reading (record { 0 = getD s (at + 6) 0 }))) 7 ≡ saysIn s at m
-    says-release e = rw (e, p)
+    pub says-release : m ≡ Mark.Release → readAs (Record.Event (Event.Release reading (record { 0 = getD s (at + 6) 0 }))) size ≡ saysIn s at m
+    says-release e = rw (n, e, p)
 
-    pub says-done : m ≡ Mark.Done → readAs (Record.Event (Event.Done reading (record { 0 = getD s (at + 6) 0 }))) 7 ≡ saysIn s at m
-    says-done e = rw (e, p)
+    pub says-done : m ≡ Mark.Done → readAs (Record.Event (Event.Done reading (record { 0 = getD s (at + 6) 0 }))) size ≡ saysIn s at m
+    says-done e = rw (n, e, p)
 
-    pub says-clock : m ≡ Mark.Clock → readAs (Record.Event (Event.Clock reading)) 6 ≡ saysIn s at m
-    says-clock e = rw (e, p)
+    pub says-clock : m ≡ Mark.Clock → readAs (Record.Event (Event.Clock reading)) size ≡ saysIn s at m
+    says-clock e = rw (n, e, p)

@@ -1,8 +1,6 @@
 -- What is read, as the rules' records.
 use Prim.Native.Nat.{ℕ}
-use mathlib.Core.Bool.{_&&_}
 use mathlib.Core.List.{List}
-use lib.Dec.{eqb}
 use Rattle.laws.specs.Words.{pick}
 use Rattle.rules.specs.Calls as Calls
 use Rattle.rules.specs.Records as Rules
@@ -34,24 +32,25 @@ foundIn Found.End = Rules.End
 foundIn (Found.Read r size) = readAs r size
 foundIn Found.Bad = Rules.Bad
 
--- ---- inside: the table of marks, by their names
+-- ---- inside: the rules' table of marks, by their names
 
 abbrev pub markIn : ℕ → ℕ → Mark
 markIn a b =
-    pick (eqb a 84 && eqb b 75) Mark.Task
-    (pick (eqb a 82 && eqb b 76) Mark.Release (pick (eqb a 68 && eqb b 78) Mark.Done (pick (eqb a 84 && eqb b 77) Mark.Clock Mark.Unknown)))
+    pick (Rules.isMark a b Rules.taskMark) Mark.Task
+    (pick (Rules.isMark a b Rules.releaseMark) Mark.Release
+    (pick (Rules.isMark a b Rules.doneMark) Mark.Done (pick (Rules.isMark a b Rules.clockMark) Mark.Clock Mark.Unknown)))
 
 abbrev pub sizeIn : Mark → ℕ
-sizeIn Mark.Task = 14
-sizeIn Mark.Release = 7
-sizeIn Mark.Done = 7
-sizeIn Mark.Clock = 6
+sizeIn Mark.Task = Rules.taskMark .size
+sizeIn Mark.Release = Rules.releaseMark .size
+sizeIn Mark.Done = Rules.doneMark .size
+sizeIn Mark.Clock = Rules.clockMark .size
 sizeIn Mark.Unknown = 0
 
 -- what a record that is there says
 abbrev pub saysIn : List ℕ → ℕ → Mark → Rules.Found
-saysIn s at Mark.Task = Rules.Read (Rules.taskRecord s at) 14
-saysIn s at Mark.Release = Rules.Read (Rules.releaseRecord s at) 7
-saysIn s at Mark.Done = Rules.Read (Rules.doneRecord s at) 7
-saysIn s at Mark.Clock = Rules.Read (Rules.clockRecord s at) 6
+saysIn s at Mark.Task = Rules.readBy s at Rules.taskMark
+saysIn s at Mark.Release = Rules.readBy s at Rules.releaseMark
+saysIn s at Mark.Done = Rules.readBy s at Rules.doneMark
+saysIn s at Mark.Clock = Rules.readBy s at Rules.clockMark
 saysIn s at Mark.Unknown = Rules.Bad

@@ -42,7 +42,7 @@ pub enum Found {
     Bad,
 }
 
-// The table of marks: what the two bytes say,
+// The table of marks: the two bytes,
 fn mark_of(first: u8, second: u8) -> Mark
     ensures { λ r. ⌜ r ≡ markIn first second ⌝ }
 {
@@ -61,7 +61,7 @@ fn mark_of(first: u8, second: u8) -> Mark
     Mark::Unknown
 }
 
-// how many bytes the record has, its mark included,
+// and how many bytes the record has with them.
 fn size_of(mark: Mark) -> usize
     ensures { λ r. ⌜ r ≡ sizeIn mark ⌝ }
 {
@@ -74,9 +74,9 @@ fn size_of(mark: Mark) -> usize
     }
 }
 
-// and what it says, where all its bytes are there.
-fn body_at(stream: &[u8], at: usize, mark: Mark) -> Found
-    requires { ⌜ at + sizeIn mark ≤ length (now stream) ⌝ }
+// What the record of a mark says, where all its bytes are there.
+fn body_at(stream: &[u8], at: usize, mark: Mark, size: usize) -> Found
+    requires { ⌜ (size ≡ sizeIn mark) × (at + size ≤ length (now stream)) ⌝ }
     ensures { λ r. ⌜ foundIn r ≡ saysIn (now (stream .entry)) at mark ⌝ }
 {
     match mark {
@@ -84,21 +84,21 @@ fn body_at(stream: &[u8], at: usize, mark: Mark) -> Found
             let c = word_at(stream, at + 2);
             let d = word_at(stream, at + 6);
             let t = word_at(stream, at + 10);
-            Found::Read(Record::Task(Task { c, d, t }), 14)
+            Found::Read(Record::Task(Task { c, d, t }), size)
         }
         Mark::Release => {
             let reading = word_at(stream, at + 2);
             let task = TaskNo(stream[at + 6]);
-            Found::Read(Record::Event(Event::Release { reading, task }), 7)
+            Found::Read(Record::Event(Event::Release { reading, task }), size)
         }
         Mark::Done => {
             let reading = word_at(stream, at + 2);
             let task = TaskNo(stream[at + 6]);
-            Found::Read(Record::Event(Event::Done { reading, task }), 7)
+            Found::Read(Record::Event(Event::Done { reading, task }), size)
         }
         Mark::Clock => {
             let reading = word_at(stream, at + 2);
-            Found::Read(Record::Event(Event::Clock { reading }), 6)
+            Found::Read(Record::Event(Event::Clock { reading }), size)
         }
         Mark::Unknown => Found::Bad,
     }
@@ -133,10 +133,11 @@ pub fn record_at(stream: &[u8], at: usize) -> Found
         return Found::Bad;
     }
     let mark = mark_of(stream[at], stream[at + 1]);
-    if stream.len() - at < size_of(mark) {
+    let size = size_of(mark);
+    if stream.len() - at < size {
         return Found::Bad;
     }
-    body_at(stream, at, mark)
+    body_at(stream, at, mark, size)
 }
 
 // "The record reader keeps the stream it reads together with its place in it."

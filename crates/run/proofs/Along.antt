@@ -10,7 +10,7 @@ use Rattle.rules.specs.Numbers.{longest, numberOf}
 use Rattle.rules.specs.Table.{Task}
 use Rattle.rules.specs.State.{State, waiting}
 use Rattle.rules.specs.Calls.{Call, movesIn, stepOf}
-use Rattle.rules.specs.Histories.{eventsOf, totalOf, boundOf, shareBy}
+use Rattle.rules.specs.Histories.{eventsOf, totalOf, boundOf, boundBy}
 use Rattle.rules.specs.Lines.{taskIn, lineOf, eventLines}
 use Rattle.rules.specs.Records.{End, Bad, Read, TaskRecord, EventRecord, recordAt, itemsFrom, callsIn, callsRead}
 use Rattle.rules.specs.Text.{eventText, eventsText}
@@ -27,9 +27,9 @@ use Rattle.kernel.specs.declared.Margin.the-variants.{None}
 use Rattle.kernel.specs.declared.Refusal.{Refusal}
 use Rattle.kernel.specs.Answers.{refusalIn}
 use Rattle.kernel.specs.Block.{viewOf, Whole}
-use Rattle.text.specs.Shown.{shownAs}
+use Rattle.lines.specs.Shown.{shownAs}
 use Rattle.run.specs.declared.events.Progress.{Progress}
-use Rattle.text.specs.Room.{eventRoom}
+use Rattle.lines.specs.Room.{eventRoom}
 use Rattle.run.specs.Run.{eventsRoom, stepIn, totalsOf, Begins, Steps, Ends}
 
 -- ---- one E line
@@ -54,7 +54,7 @@ module _ (s : State) (n : ℕ) (c : Call) (cs : List Call) where
   unfolding eventsOf sum
   total-more = refl
 
-  bound-more : (table : List Task) → boundOf table (eventsOf s (c ∷ cs)) ≡ shareBy table c (stepOf s c .answer) + boundOf table (eventsOf (stepOf s c .state) cs)
+  bound-more : (table : List Task) → boundOf table (eventsOf s (c ∷ cs)) ≡ boundBy table c (stepOf s c .answer) + boundOf table (eventsOf (stepOf s c .state) cs)
   unfolding eventsOf sum
   bound-more table = refl
 
@@ -78,7 +78,7 @@ module _ (table : List Task) (before : List ℕ) (place : ℕ) (s : State) (all 
 
     pub left-next : (c : Call) (cs : List Call) → rest ≡ c ∷ cs → {next : State} → next ≡ stepOf now c .state → {out′ : List ℕ} {at′ moves′ bound′ n′ : ℕ}
         → n′ ≡ suc n → Puts out at (eventText (lineOf (suc n) (stepOf now c))) at′ out′ → moves′ ≡ moves + movesIn (stepOf now c .answer)
-        → bound′ ≡ bound + shareBy table c (stepOf now c .answer) → Left table before place s all next n′ cs out′ at′ moves′ bound′
+        → bound′ ≡ bound + boundBy table c (stepOf now c .answer) → Left table before place s all next n′ cs out′ at′ moves′ bound′
     left-next c cs e v {out′} {at′} {moves′} {bound′} en p m b =
         rw (v, en) (record {
           text = l .text ++ eventText (lineOf (suc n) (stepOf now c));
@@ -162,7 +162,7 @@ module _ (s : List ℕ) (b : Block) (before : List ℕ) (place : ℕ) where
           size = puts-length (t .text) ∙ w .size;
           left =
               left-next _ _ _ _ _ (viewOf (now .block)) (now .count) (w .left) c _ (calls-more s at c n e) (t .view) (t .count) (t .text) (t .moves)
-              (t .bound ∙ ap (λ (ts : List Task). now .bound + shareBy ts c (stepOf (viewOf (now .block)) c .answer)) (w .table));
+              (t .bound ∙ ap (λ (ts : List Task). now .bound + boundBy ts c (stepOf (viewOf (now .block)) c .answer)) (w .table));
         }
 
     module _ (short : length s ≤ longest) where

@@ -13,8 +13,8 @@ use Rattle.levels.specs.declared.Plan.{Plan}
 use Rattle.levels.specs.Copy.{Copied, held}
 use Rattle.levels.proofs.PlansHeld.{plan-fits}
 use Rattle.levels.proofs.Casts.{first-by}
-use Rattle.text.specs.Shown.{pointsIn}
-use Rattle.text.proofs.Shown.{points-count, points-held}
+use Rattle.lines.specs.Shown.{pointsIn}
+use Rattle.lines.proofs.Showing.{points-count, points-held}
 use Rattle.jobs.specs.declared.Tasks.{Tasks}
 use Rattle.run.specs.Run.{LaidTask}
 

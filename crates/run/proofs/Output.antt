@@ -20,8 +20,8 @@ use Rattle.rules.proofs.Readable.{stream-numbers}
 use Rattle.rules.proofs.Runner.{runner-refused, runner-table, runner-stream, output-refused, output-passed}
 use Rattle.table.specs.declared.Table.{Table}
 use Rattle.table.specs.Stored.{tableOf, verdictIn}
-use Rattle.text.specs.Shown.{numbersText}
-use Rattle.text.proofs.Shown.{refusal-shown}
+use Rattle.lines.specs.Shown.{numbersText}
+use Rattle.lines.proofs.Showing.{refusal-shown}
 use Rattle.stream.specs.Load.{tableIn}
 use Rattle.stream.proofs.Loading.{table-same, table-verdict, table-places}
 use Rattle.kernel.specs.declared.Block.{Block}

@@ -9,7 +9,7 @@ use Rattle.laws.proofs.Buffers.{puts-none, puts-then, puts-as, puts-length}
 use Rattle.rules.specs.Table.{Task, most}
 use Rattle.rules.specs.Lines.{planLines}
 use Rattle.rules.specs.Text.{planText, plansText}
-use Rattle.text.specs.Room.{planRoom}
+use Rattle.lines.specs.Room.{planRoom}
 use Rattle.run.specs.Run.{lineOfPlan}
 
 -- with n lines left from task k up, where so much is written, the whole comes to all lines

@@ -8,7 +8,7 @@ use lib.ListN.{length}
 use Rattle.laws.specs.Words.{Puts}
 use Rattle.laws.proofs.Buffers.{puts-as}
 use Rattle.rules.specs.Table.{most}
-use Rattle.rules.specs.Histories.{shareBy}
+use Rattle.rules.specs.Histories.{boundBy}
 use Rattle.rules.specs.State.{State}
 use Rattle.rules.specs.Calls.{Call, Answer, movesIn, stepOf}
 use Rattle.rules.specs.Lines.{EventLine, lineOf}
@@ -23,11 +23,11 @@ use Rattle.kernel.specs.Answers.{answerIn}
 use Rattle.kernel.specs.Calls.{Does, Gives}
 use Rattle.kernel.proofs.Fifteen.{of-whole}
 use Rattle.kernel.proofs.Asking.{lists-viewed, copy-viewed}
-use Rattle.text.specs.declared.lines.Shown.{Shown}
-use Rattle.text.specs.Shown.{shownAs}
-use Rattle.text.specs.Room.{eventRoom}
+use Rattle.lines.specs.declared.Shown.{Shown}
+use Rattle.lines.specs.Shown.{shownAs}
+use Rattle.lines.specs.Room.{eventRoom}
 use Rattle.run.specs.declared.events.Progress.{Progress}
-use Rattle.run.specs.Run.{stepIn, Laid, Shares, Begins, Steps}
+use Rattle.run.specs.Run.{stepIn, Laid, Boundable, Begins, Steps}
 
 -- ---- the call
 
@@ -48,8 +48,8 @@ module _ (b : Block) (w : Whole b) where
     pub step-same : stepIn r ≡ stepOf (viewOf b) c
     step-same = ap₂ (λ (a : Answer) (s : State). record { answer = a; state = s }) (does .answer) (does .view)
 
-    pub shares-whole : length (b .tasks .table .tasks) ≡ most → Shares (b .tasks) c (answerIn (r .answer))
-    shares-whole long =
+    pub boundable-whole : length (b .tasks .table .tasks) ≡ most → Boundable (b .tasks) c (answerIn (r .answer))
+    boundable-whole long =
         record {
           laid = laid-whole long;
           task = λ n k x m h e a. accepted-task (viewOf b) n k (ap (λ (q : Call). stepOf (viewOf b) q .answer) (sym e) ∙ sym (does .answer) ∙ a);
@@ -64,9 +64,9 @@ module _ (a : Progress) (w : Begins a) (c : Call) (r : Called) (g : Gives (a .bl
   pub line-few : line .moves ≤ most
   line-few = omega (arith, line-moves, moves-few (a .block) (w .whole) c)
 
-  pub steps : {share place : ℕ} {before after : List ℕ} → share ≡ shareBy (tableOf (a .block .tasks .table)) c (answerIn (r .answer)) → share ≤ 256
+  pub steps : {more place : ℕ} {before after : List ℕ} → more ≡ boundBy (tableOf (a .block .tasks .table)) c (answerIn (r .answer)) → more ≤ 256
       → Puts before (a .place) (eventText (shownAs line)) place after → place ≤ a .place + eventRoom
-      → Steps a c before (record { block = r .block; place = place; count = a .count + 1; moves = a .moves + line .moves; bound = a .bound + share }) after
+      → Steps a c before (record { block = r .block; place = place; count = a .count + 1; moves = a .moves + line .moves; bound = a .bound + more }) after
   steps s small p near =
       let d = does (a .block) (w .whole) c r g in
       record {
@@ -77,7 +77,7 @@ module _ (a : Progress) (w : Begins a) (c : Call) (r : Called) (g : Gives (a .bl
         near = near;
         count = add-one (a .count);
         moves = ap (λ (m : ℕ). a .moves + m) line-moves;
-        bound = ap (λ (m : ℕ). a .bound + m) (s ∙ ap (shareBy (tableOf (a .block .tasks .table)) c) (d .answer));
+        bound = ap (λ (m : ℕ). a .bound + m) (s ∙ ap (boundBy (tableOf (a .block .tasks .table)) c) (d .answer));
         few-moves = omega (arith, line-few);
         small-bound = omega arith;
       }

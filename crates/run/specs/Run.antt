@@ -11,7 +11,7 @@ use Rattle.rules.specs.Table.{Task, isTask}
 use Rattle.rules.specs.Levels.{firstLevel, planOf}
 use Rattle.rules.specs.Calls.{Call, Release, Answer, Accepted, Margin, movesIn, startOf, Step, stepOf}
 use Rattle.rules.specs.State.{Running}
-use Rattle.rules.specs.Histories.{eventsOf, totalOf, boundOf, shareBy}
+use Rattle.rules.specs.Histories.{eventsOf, totalOf, boundOf, boundBy}
 use Rattle.rules.specs.Lines.{PlanLine, lineOf, eventLines}
 use Rattle.rules.specs.Text.{eventText, eventsText}
 use Rattle.rules.specs.Records.{tasksRead, runnerTests}
@@ -23,7 +23,7 @@ use Rattle.kernel.specs.declared.Block.{Block}
 use Rattle.kernel.specs.declared.Called.{Called}
 use Rattle.kernel.specs.Block.{viewOf, Whole, SameTasks}
 use Rattle.kernel.specs.Answers.{answerIn}
-use Rattle.text.specs.Room.{eventRoom}
+use Rattle.lines.specs.Room.{eventRoom}
 use Rattle.run.specs.declared.events.Progress.{Progress}
 use Rattle.run.specs.declared.events.Totals.{Totals}
 
@@ -72,7 +72,7 @@ abbrev pub stepIn : Called → Step
 stepIn r = record { answer = answerIn (r .answer); state = viewOf (r .block) }
 
 -- the table is laid down, and an accepted release is one of its tasks'
-pub record Shares (tasks : Tasks) (c : Call) (a : Answer) : Type 0 where
+pub record Boundable (tasks : Tasks) (c : Call) (a : Answer) : Type 0 where
   pub laid : Laid tasks
   pub task : (reading k : ℕ) (running : Running) (moves : ℕ) (margin : Margin) → c ≡ Release reading k → a ≡ Accepted running moves margin → isTask (tableOf (tasks .table)) k ≡ true
 
@@ -95,7 +95,7 @@ pub record Steps (a : Progress) (c : Call) (before : List ℕ) (r : Progress) (a
   pub near : r .place ≤ a .place + eventRoom
   pub count : r .count ≡ suc (a .count)
   pub moves : r .moves ≡ a .moves + movesIn (stepOf (viewOf (a .block)) c .answer)
-  pub bound : r .bound ≡ a .bound + shareBy (tableOf (a .block .tasks .table)) c (stepOf (viewOf (a .block)) c .answer)
+  pub bound : r .bound ≡ a .bound + boundBy (tableOf (a .block .tasks .table)) c (stepOf (viewOf (a .block)) c .answer)
   pub few-moves : r .moves ≤ a .moves + 2 ^ 32
   pub small-bound : r .bound ≤ a .bound + 2 ^ 32
 

@@ -5,29 +5,29 @@ ghost use lib.ListN.{length};
 ghost use Rattle.rules.specs.Numbers.{longest};
 ghost use Rattle.rules.specs.Lines as Rules;
 ghost use Rattle.rules.specs.Levels.{firstLevel};
-ghost use Rattle.rules.specs.Histories.{shareBy};
+ghost use Rattle.rules.specs.Histories.{boundBy};
 ghost use Rattle.rules.specs.Records.{callsRead};
 ghost use Rattle.table.specs.Stored.{tableOf};
-ghost use Rattle.text.specs.Shown.{shownAs};
+ghost use Rattle.lines.specs.Shown.{shownAs};
 ghost use Rattle.records.specs.Read.{callIn};
 ghost use Rattle.kernel.specs.Block.{Whole};
 ghost use Rattle.kernel.specs.Answers.{answerIn};
 ghost use Rattle.kernel.specs.Calls.{Gives};
-ghost use Rattle.text.specs.Room.{eventRoom};
-ghost use Rattle.run.specs.Run.{totalsOf, stepIn, eventsRoom, LaidTask, Shares, Steps, Begins, Ends};
+ghost use Rattle.lines.specs.Room.{eventRoom};
+ghost use Rattle.run.specs.Run.{totalsOf, stepIn, eventsRoom, LaidTask, Boundable, Steps, Begins, Ends};
 use jobs::Tasks;
 use kernel::Answer;
 use kernel::Block;
 use kernel::Called;
 use kernel::Margin;
+use kernel::TaskNo;
 use levels::first_level;
 use records::Event;
 use records::Found;
 use records::Record;
 use records::read;
-use table::TaskNo;
-use text::lines::Shown;
-use text::lines::event_line;
+use lines::Shown;
+use lines::event_line;
 
 // How far a run has come: the block, the place behind the last line, how many events there were, the total of moves, and the bound of
 // demand 3.
@@ -104,9 +104,9 @@ fn shown(count: u64, called: Called) -> Shown
 }
 
 // Of an accepted release "the released task's first level less one".
-fn share(tasks: Tasks, event: Event, answer: Answer) -> u64
-    requires { ⌜ Shares tasks (callIn event) (answerIn answer) ⌝ }
-    ensures { λ r. ⌜ (r ≡ shareBy (tableOf (tasks .table)) (callIn event) (answerIn answer)) × (r ≤ 256) ⌝ }
+fn bound_by(tasks: Tasks, event: Event, answer: Answer) -> u64
+    requires { ⌜ Boundable tasks (callIn event) (answerIn answer) ⌝ }
+    ensures { λ r. ⌜ (r ≡ boundBy (tableOf (tasks .table)) (callIn event) (answerIn answer)) × (r ≤ 256) ⌝ }
 {
     match event {
         Event::Done {
@@ -120,13 +120,13 @@ fn share(tasks: Tasks, event: Event, answer: Answer) -> u64
                 running: _,
                 moves: _,
                 margin: _,
-            } => first_share(tasks, task),
+            } => first_less_one(tasks, task),
         },
     }
 }
 
 // A task's first level less one.
-fn first_share(tasks: Tasks, task: TaskNo) -> u64
+fn first_less_one(tasks: Tasks, task: TaskNo) -> u64
     requires { ⌜ LaidTask tasks (task .0) ⌝ }
     ensures { λ r. ⌜ (r ≡ firstLevel (tableOf (tasks .table)) (task .0) - 1) × (r ≤ 256) ⌝ }
 {
@@ -150,7 +150,7 @@ fn event(progress: Progress, event: Event, out: &mut [u8]) -> Progress
     let after = called.block;
     let line = shown(count, called);
     let moves = progress.moves + line.moves;
-    let bound = progress.bound + share(tasks, event, answer);
+    let bound = progress.bound + bound_by(tasks, event, answer);
     let place = event_line(out, progress.place, line);
     Progress {
         block: after,

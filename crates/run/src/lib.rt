@@ -19,15 +19,15 @@ ghost use Rattle.rules.specs.Runner.{outputOf};
 ghost use Rattle.run.specs.Run.{room, Runs, Started};
 use events::events;
 use kernel::Block;
+use kernel::Verdict;
 use kernel::start::start;
 use plans::plan_lines;
 use stream::LONGEST;
 use stream::Stream;
 use stream::stream_test;
 use stream::table_in;
-use table::Verdict;
-use text::lines::refusal_line;
-use text::lines::sum_line;
+use lines::refusal_line;
+use lines::sum_line;
 
 mod plans; // P lines
 mod events; // E lines

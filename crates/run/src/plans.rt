@@ -6,13 +6,13 @@ ghost use Rattle.rules.specs.Table.{most};
 ghost use Rattle.rules.specs.Lines.{planLines};
 ghost use Rattle.rules.specs.Text.{planText, plansText};
 ghost use Rattle.table.specs.Stored.{tableOf};
-ghost use Rattle.text.specs.Room.{planRoom};
+ghost use Rattle.lines.specs.Room.{planRoom};
 ghost use Rattle.run.specs.Run.{lineOfPlan, Laid, LaidTask};
 use jobs::Tasks;
+use kernel::TaskNo;
 use levels::first_level;
 use levels::plan_of;
-use table::TaskNo;
-use text::lines::plan_line;
+use lines::plan_line;
 
 // The line of one task.
 fn task_line(tasks: Tasks, task: TaskNo, out: &mut [u8], at: usize) -> usize

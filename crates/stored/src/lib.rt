@@ -15,9 +15,9 @@ ghost use Rattle.laws.specs.Words.{Decides, digit};
 ghost use Rattle.rules.specs.Table.{most};
 ghost use Rattle.lists.specs.Answers.{listsOf, Holds};
 ghost use Rattle.stored.specs.Test.{Went, Unlinked, ListsRight, MapTrue};
-use lists::PLACES;
 use lists::Stored;
 use table::MOST;
+use table::PLACES;
 use table::TaskNo;
 
 // Whether a list is right, and who has been seen so far.

@@ -40,9 +40,9 @@ impl Stream {
     {
         match self {
             Stream::Readable => 0,
-            Stream::Unreadable(_) => 12,
-            Stream::TaskBehindEvent(_) => 13,
-            Stream::TooLong => 14,
+            Stream::Unreadable(_) => refusals::UNREADABLE,
+            Stream::TaskBehindEvent(_) => refusals::TASK_BEHIND_EVENT,
+            Stream::TooLong => refusals::INPUT_TOO_LONG,
         }
     }
 

@@ -1,5 +1,3 @@
--- Laws of numbers and lines as text.
+-- Laws of numbers as text.
 pub mod Digits
 pub mod Signs
-pub mod Points
-pub mod Shown

@@ -1,3 +1,2 @@
 -- What the contracts of `text` cite beside the rules.
-pub mod Shown
 pub mod Room

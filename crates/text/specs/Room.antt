@@ -1,5 +1,5 @@
 -- Room for the longest text that a function can put.
-use Prim.Native.Nat.{ℕ, _+_, _*_}
+use Prim.Native.Nat.{ℕ, _+_}
 
 -- 20 digits are enough for 64 bits
 abbrev pub numberRoom : ℕ
@@ -8,23 +8,3 @@ numberRoom = 20
 -- behind a sign, or behind a blank
 abbrev pub columnRoom : ℕ
 columnRoom = 1 + numberRoom
-
--- a blank, a sign and a number
-abbrev pub marginRoom : ℕ
-marginRoom = 1 + columnRoom
-
--- the lines X and S: a letter, two columns, a line's end
-abbrev pub numbersRoom : ℕ
-numbersRoom = 2 + 2 * columnRoom
-
--- n points: a column, a colon and a number each
-abbrev pub pointsRoom : ℕ → ℕ
-pointsRoom n = (columnRoom + 1 + numberRoom) * n
-
--- a P line with n points: a letter, two columns, the points, a line's end
-abbrev pub planRoom : ℕ → ℕ
-planRoom n = 2 + 2 * columnRoom + pointsRoom n
-
--- an E line: a letter, five columns, the margin, a line's end
-abbrev pub eventRoom : ℕ
-eventRoom = 2 + 5 * columnRoom + marginRoom

@@ -1,5 +1,5 @@
 // Numbers as text, into a buffer that the caller lends: each function puts its text from a place on, leaves all other bytes as they are,
-// and gives back the place behind it. `lines` has the runner's lines.
+// and gives back the place behind it.
 //
 // They are inner forms: each asks for room for the longest text that it can put.
 ghost use mathlib.Core.Path.{_≡_};
@@ -11,8 +11,6 @@ ghost use lib.ListN.{length};
 ghost use Rattle.laws.specs.Words.{Puts};
 ghost use Rattle.rules.specs.Text.{digits, numberText, signedText, column};
 ghost use Rattle.text.specs.Room.{numberRoom, columnRoom};
-
-pub mod lines; // the lines X, P, E and S
 
 // 20 digits are enough for 64 bits.
 const DIGITS: usize = 20;

@@ -19,15 +19,15 @@ ghost use Rattle.whole.specs.Parts.{datedBy, Tested};
 use clock::LAST_TICK;
 use jobs::Job;
 use jobs::Last;
-use jobs::PLACES;
 use jobs::Tasks;
 use levels::agrees;
 use lists::Who;
-use queue::BYTES;
+use queue::LISTING_BYTES;
 use queue::active_as;
 use queue::runs_whole;
 use ready::Ready;
 use stored::holds_lists;
+use table::PLACES;
 use table::Table;
 use table::Verdict;
 use table::tests_to_3;
@@ -100,7 +100,7 @@ fn queue_whole(tasks: Tasks, jobs: [Job; PLACES], ready: Ready, clock: u64) -> b
 {
     let running = ready.running;
     let lists = ready.lists;
-    let mut bytes = [0u8; BYTES];
+    let mut bytes = [0u8; LISTING_BYTES];
     let end = lists.list_all(&mut bytes);
     match running {
         Who::Nobody => {

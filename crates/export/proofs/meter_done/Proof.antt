@@ -12,8 +12,8 @@ load-requires c κs = search needs
 done-requires : tie.Need-done-requires
 done-requires c κs = search needs
 
-stored-requires : tie.Need-stored-requires
-stored-requires c κs = search needs
+answered-requires : tie.Need-answered-requires
+answered-requires c κs = search needs
 
 same-length : tie.Need-same-length
 same-length c = search needs
@@ -21,8 +21,8 @@ same-length c = search needs
 returns-2 : tie.Need-returns-2
 returns-2 c =
     let called = c .before .before .before .before .before in let test = called .before .before .before in let s = test .before .before in
-    tells _ (s .args .block .now) (s .args .answer .now) (test .if1 .left) (called .before .load .ensures) _ (called .done .ensures) _ _ _ (c .before .before .stored .ensures)
+    tells _ (s .args .block .now) (s .args .answer .now) (test .if1 .left) (called .before .load .ensures) _ (called .done .ensures) _ _ _ (c .before .before .answered .ensures)
 
 pub meter-done-spec : {M : Type 1} → statement M
 meter-done-spec =
-    tie.close (tie.spec returns load-requires done-requires stored-requires same-length returns-2)
+    tie.close (tie.spec returns load-requires done-requires answered-requires same-length returns-2)

@@ -36,11 +36,11 @@ add-word-at-4 c = search needs
 word-at-requires-4 : tie.Need-word-at-requires-4
 word-at-requires-4 c κs = omega (arith, ap sizeIn (c .enum-told2 .given .1))
 
-add-t16 : tie.Need-add-t16
-add-t16 c = search needs
+add-t17 : tie.Need-add-t17
+add-t17 c = search needs
 
-shared-slice-read-t18 : tie.Need-shared-slice-read-t18
-shared-slice-read-t18 c = omega (arith, ap sizeIn (c .before .before .enum-told2 .given .1))
+shared-slice-read-t19 : tie.Need-shared-slice-read-t19
+shared-slice-read-t19 c = omega (arith, ap sizeIn (c .before .before .enum-told2 .given .1))
 
 enum-told-3 : tie.Need-enum-told-3
 enum-told-3 c = search needs
@@ -51,11 +51,11 @@ add-word-at-5 c = search needs
 word-at-requires-5 : tie.Need-word-at-requires-5
 word-at-requires-5 c κs = omega (arith, ap sizeIn (c .enum-told3 .given .1))
 
-add-t21 : tie.Need-add-t21
-add-t21 c = search needs
+add-t22 : tie.Need-add-t22
+add-t22 c = search needs
 
-shared-slice-read-t23 : tie.Need-shared-slice-read-t23
-shared-slice-read-t23 c = omega (arith, ap sizeIn (c .before .before .enum-told3 .given .1))
+shared-slice-read-t24 : tie.Need-shared-slice-read-t24
+shared-slice-read-t24 c = omega (arith, ap sizeIn (c .before .before .enum-told3 .given .1))
 
 enum-told-4 : tie.Need-enum-told-4
 enum-told-4 c = search needs
@@ -70,16 +70,16 @@ enum-told-5 : tie.Need-enum-told-5
 enum-told-5 c = search needs
 
 returns : tie.Need-returns
-returns c = says-task _ _ _ (c .before .before .before .enum-told .given .1) (c .before .before .word-at .ensures) (c .before .word-at2 .ensures) (c .word-at3 .ensures)
+returns c = says-task _ _ _ (c .before .before .before .before .before .before .pre .0) (c .before .before .before .enum-told .given .1) (c .before .before .word-at .ensures) (c .before .word-at2 .ensures) (c .word-at3 .ensures)
 
 returns-2 : tie.Need-returns-2
-returns-2 c = says-release _ _ _ (c .before .word-at4 .ensures) (c .before .before .enum-told2 .given .1)
+returns-2 c = says-release _ _ _ (c .before .before .before .before .before .pre .0) (c .before .word-at4 .ensures) (c .before .before .enum-told2 .given .1)
 
 returns-3 : tie.Need-returns-3
-returns-3 c = says-done _ _ _ (c .before .word-at5 .ensures) (c .before .before .enum-told3 .given .1)
+returns-3 c = says-done _ _ _ (c .before .before .before .before .before .pre .0) (c .before .word-at5 .ensures) (c .before .before .enum-told3 .given .1)
 
 returns-4 : tie.Need-returns-4
-returns-4 c = says-clock _ _ _ (c .word-at6 .ensures) (c .before .enum-told4 .given .1)
+returns-4 c = says-clock _ _ _ (c .before .before .before .before .pre .0) (c .word-at6 .ensures) (c .before .enum-told4 .given .1)
 
 returns-5 : tie.Need-returns-5
 returns-5 c = search needs
@@ -98,13 +98,13 @@ body-at-spec =
     enum-told-2
     add-word-at-4
     word-at-requires-4
-    add-t16
-    shared-slice-read-t18
+    add-t17
+    shared-slice-read-t19
     enum-told-3
     add-word-at-5
     word-at-requires-5
-    add-t21
-    shared-slice-read-t23
+    add-t22
+    shared-slice-read-t24
     enum-told-4
     add-word-at-6
     word-at-requires-6

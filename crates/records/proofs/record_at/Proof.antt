@@ -28,11 +28,11 @@ shared-slice-read-mark-of-2 c = search needs
 mark-of-requires : tie.Need-mark-of-requires
 mark-of-requires c κs = search needs
 
-sub-if3 : tie.Need-sub-if3
-sub-if3 c = search needs
-
 size-of-requires : tie.Need-size-of-requires
 size-of-requires c κs = search needs
+
+sub-if3 : tie.Need-sub-if3
+sub-if3 c = search needs
 
 returns-3 : tie.Need-returns-3
 returns-3 c = sym (cut-at _ _ (omega arith) (omega (arith, ap sizeIn (c .before .before .mark-of .ensures))))
@@ -56,8 +56,8 @@ record-at-spec =
     add-mark-of
     shared-slice-read-mark-of-2
     mark-of-requires
-    sub-if3
     size-of-requires
+    sub-if3
     returns-3
     body-at-requires
     returns-4)

@@ -11,11 +11,11 @@ enum-told c = search needs
 slice-write-bytes : tie.Need-slice-write-bytes
 slice-write-bytes c = search needs
 
-add-put-number : tie.Need-add-put-number
-add-put-number c = search needs
+add-put-little : tie.Need-add-put-little
+add-put-little c = search needs
 
-put-number-requires : tie.Need-put-number-requires
-put-number-requires c κs = simp length-set (omega arith)
+put-little-requires : tie.Need-put-little-requires
+put-little-requires c κs = simp length-set (omega arith)
 
 enum-known-last : tie.Need-enum-known-last
 enum-known-last c = search needs
@@ -23,14 +23,14 @@ enum-known-last c = search needs
 slice-write-bytes-2 : tie.Need-slice-write-bytes-2
 slice-write-bytes-2 c = search needs
 
-add-put-number-2 : tie.Need-add-put-number-2
-add-put-number-2 c = search needs
+add-put-little-2 : tie.Need-add-put-little-2
+add-put-little-2 c = search needs
 
-put-number-requires-2 : tie.Need-put-number-requires-2
-put-number-requires-2 c κs = simp length-set (omega arith)
+put-little-requires-2 : tie.Need-put-little-requires-2
+put-little-requires-2 c κs = simp length-set (omega arith)
 
 returns : tie.Need-returns
-returns c = rw (c .before .before .before .before .enum-told .given .1) (puts-to (omega arith) (puts-then (puts-byte _ _ _) (c .before .before .put-number .ensures)))
+returns c = rw (c .before .before .before .before .enum-told .given .1) (puts-to (omega arith) (puts-then (puts-byte _ _ _) (c .before .before .put-little .ensures)))
 
 same-length : tie.Need-same-length
 same-length c = puts-length (returns c)
@@ -47,12 +47,12 @@ put-last-spec =
     (tie.spec
     enum-told
     slice-write-bytes
-    add-put-number
-    put-number-requires
+    add-put-little
+    put-little-requires
     enum-known-last
     slice-write-bytes-2
-    add-put-number-2
-    put-number-requires-2
+    add-put-little-2
+    put-little-requires-2
     same-length
     returns
     same-length-2

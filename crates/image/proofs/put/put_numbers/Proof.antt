@@ -20,23 +20,23 @@ abbrev μ-loop : tie.MeasureT-loop
 loop-holds : tie.Need-loop-holds Inv-loop μ-loop
 loop-holds c = (omega arith, none-put (little 4) _ _ _ (omega arith))
 
-mul-put-number : tie.Need-mul-put-number Inv-loop μ-loop
-mul-put-number c = search needs
+mul-put-little : tie.Need-mul-put-little Inv-loop μ-loop
+mul-put-little c = search needs
 
-add-put-number : tie.Need-add-put-number Inv-loop μ-loop
-add-put-number c = search needs
+add-put-little : tie.Need-add-put-little Inv-loop μ-loop
+add-put-little c = search needs
 
-mul-put-number-2 : tie.Need-mul-put-number-2 Inv-loop μ-loop
-mul-put-number-2 c = search needs
+mul-put-little-2 : tie.Need-mul-put-little-2 Inv-loop μ-loop
+mul-put-little-2 c = search needs
 
-array-read-put-number : tie.Need-array-read-put-number Inv-loop μ-loop
-array-read-put-number c = search needs
+array-read-put-little : tie.Need-array-read-put-little Inv-loop μ-loop
+array-read-put-little c = search needs
 
-cast-put-number : tie.Need-cast-put-number Inv-loop μ-loop
-cast-put-number c = search needs
+cast-put-little : tie.Need-cast-put-little Inv-loop μ-loop
+cast-put-little c = search needs
 
-put-number-requires : tie.Need-put-number-requires Inv-loop μ-loop
-put-number-requires c κs = omega (arith, puts-length (c .before .before .loop .inv .1))
+put-little-requires : tie.Need-put-little-requires Inv-loop μ-loop
+put-little-requires c κs = omega (arith, puts-length (c .before .before .loop .inv .1))
 
 add-i : tie.Need-add-i Inv-loop μ-loop
 add-i c = search needs
@@ -49,7 +49,7 @@ loop-again c =
     let a = c .before .before .before .before .before .before .before .args in
     let now = c .before .before .before .before .before .loop in
     let all : length (a .t3) ≡ most = search (needs, long-map) in
-    (omega arith, next-put (little 4) _ _ (now .i) (omega arith) (now .inv .1) (c .before .before .put-number .ensures) (omega arith))
+    (omega arith, next-put (little 4) _ _ (now .i) (omega arith) (now .inv .1) (c .before .before .put-little .ensures) (omega arith))
 
 same-length : tie.Need-same-length Inv-loop μ-loop
 same-length c = puts-length (c .before .loop .inv .1)
@@ -67,12 +67,12 @@ put-numbers-spec =
     Inv-loop
     μ-loop
     loop-holds
-    mul-put-number
-    add-put-number
-    mul-put-number-2
-    array-read-put-number
-    cast-put-number
-    put-number-requires
+    mul-put-little
+    add-put-little
+    mul-put-little-2
+    array-read-put-little
+    cast-put-little
+    put-little-requires
     add-i
     loop-less
     loop-again

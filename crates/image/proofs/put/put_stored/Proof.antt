@@ -22,17 +22,17 @@ add-put-places-2 c = search needs
 put-places-requires-3 : tie.Need-put-places-requires-3
 put-places-requires-3 c κs = search needs
 
-mul-put-number : tie.Need-mul-put-number
-mul-put-number c = search needs
+mul-put-little : tie.Need-mul-put-little
+mul-put-little c = search needs
 
-add-put-number : tie.Need-add-put-number
-add-put-number c = search needs
+add-put-little : tie.Need-add-put-little
+add-put-little c = search needs
 
-cast-put-number : tie.Need-cast-put-number
-cast-put-number c = search needs
+cast-put-little : tie.Need-cast-put-little
+cast-put-little c = search needs
 
-put-number-requires : tie.Need-put-number-requires
-put-number-requires c κs = search needs
+put-little-requires : tie.Need-put-little-requires
+put-little-requires c κs = search needs
 
 same-length : tie.Need-same-length
 same-length c = search needs
@@ -44,7 +44,7 @@ returns c =
     let first = second .before .before .before .before .before in
     let two = puts-behind (first .before .before .put-places .ensures) (second .before .before .put-places2 .ensures) (omega arith) in
     let three = puts-behind two (third .before .before .put-places3 .ensures) (omega arith) in
-    let all = puts-behind three (c .before .before .put-number .ensures) (omega arith) in
+    let all = puts-behind three (c .before .before .put-little .ensures) (omega arith) in
     puts-to (omega arith) all
 
 pub put-stored-spec : {M : Type 1} → statement M
@@ -57,9 +57,9 @@ put-stored-spec =
     mul-put-places
     add-put-places-2
     put-places-requires-3
-    mul-put-number
-    add-put-number
-    cast-put-number
-    put-number-requires
+    mul-put-little
+    add-put-little
+    cast-put-little
+    put-little-requires
     same-length
     returns)

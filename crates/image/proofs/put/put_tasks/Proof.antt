@@ -4,8 +4,8 @@ use Rattle.laws.proofs.Buffers.{puts-to, puts-behind}
 use Rattle.image.proofs.put.put_tasks.Statement.{statement}
 use Rattle.image.proofs.put.put_tasks.Tie as tie
 
-put-number-requires : tie.Need-put-number-requires
-put-number-requires c κs = search needs
+put-little-requires : tie.Need-put-little-requires
+put-little-requires c κs = search needs
 
 add-put-entries : tie.Need-add-put-entries
 add-put-entries c = search needs
@@ -32,7 +32,7 @@ returns : tie.Need-returns
 returns c =
     let second = c .before .before .before .before .before in
     let first = second .before .before .before .before .before in
-    let two = puts-behind (first .before .before .put-number .ensures) (second .before .before .put-entries .ensures) (omega arith) in
+    let two = puts-behind (first .before .before .put-little .ensures) (second .before .before .put-entries .ensures) (omega arith) in
     let all = puts-behind two (c .before .before .put-numbers .ensures) (omega arith) in
     puts-to (omega arith) all
 
@@ -40,7 +40,7 @@ pub put-tasks-spec : {M : Type 1} → statement M
 put-tasks-spec =
     tie.close
     (tie.spec
-    put-number-requires
+    put-little-requires
     add-put-entries
     put-entries-requires
     mul-put-numbers

@@ -5,7 +5,7 @@ use lib.ListN.{length}
 use Rattle.laws.proofs.Arrays.{long-map}
 use Rattle.rules.specs.Table.{most}
 use Rattle.records.specs.Read.{callIn}
-use Rattle.run.proofs.Steps.{does, shares-whole, line-few, steps}
+use Rattle.run.proofs.Steps.{does, boundable-whole, line-few, steps}
 use Rattle.run.proofs.events.event.Statement.{statement}
 use Rattle.run.proofs.events.event.Tie as tie
 
@@ -28,15 +28,15 @@ add-moves c =
     let d = c .before .before .before .before in let s = d .before .before .before .before .before in
     omega (arith, s .pre .0 .count, s .pre .0 .moves, line-few (s .args .progress) (s .pre .0) (callIn (s .args .event)) (d .call .result) (d .call .ensures) (c .before .before .shown .result) (c .before .before .shown .ensures))
 
-share-requires : tie.Need-share-requires
-share-requires c κs =
+bound-by-requires : tie.Need-bound-by-requires
+bound-by-requires c κs =
     let d = c .before .before .before .before in let s = d .before .before .before .before .before in
-    shares-whole (s .args .progress .block) (s .pre .0 .whole) (callIn (s .args .event)) (d .call .result) (d .call .ensures) (long s)
+    boundable-whole (s .args .progress .block) (s .pre .0 .whole) (callIn (s .args .event)) (d .call .result) (d .call .ensures) (long s)
 
 add-bound : tie.Need-add-bound
 add-bound c =
     let s = c .before .before .before .before .before .before .before .before .before .before .before in
-    omega (arith, s .pre .0 .count, s .pre .0 .bound, c .before .share .ensures .1)
+    omega (arith, s .pre .0 .count, s .pre .0 .bound, c .before .bound-by .ensures .1)
 
 event-line-requires : tie.Need-event-line-requires
 event-line-requires c κs =
@@ -51,7 +51,7 @@ returns c =
     let p = c .before .before in let h = p .before .before .before in let d = h .before .before .before .before .before in
     let s = d .before .before .before .before .before in
     steps (s .args .progress) (s .pre .0) (callIn (s .args .event)) (d .call .result) (d .call .ensures) (h .before .before .before .shown .result) (h .before .before .before .shown .ensures)
-    (h .share .ensures .0) (h .share .ensures .1) (p .event-line .ensures .0) (p .event-line .ensures .1)
+    (h .bound-by .ensures .0) (h .bound-by .ensures .1) (p .event-line .ensures .0) (p .event-line .ensures .1)
 
 pub event-spec : {M : Type 1} → statement M
 event-spec =
@@ -61,7 +61,7 @@ event-spec =
     call-requires
     shown-requires
     add-moves
-    share-requires
+    bound-by-requires
     add-bound
     event-line-requires
     same-length

@@ -1,7 +1,7 @@
 use borrow.Author.Needs.{needs}
 use Rattle.rules.specs.Text.{sumText}
-use Rattle.text.proofs.lines.sum_line.Statement.{statement}
-use Rattle.text.proofs.lines.sum_line.Tie as tie
+use Rattle.lines.proofs.sum_line.Statement.{statement}
+use Rattle.lines.proofs.sum_line.Tie as tie
 
 numbers-line-requires : tie.Need-numbers-line-requires
 numbers-line-requires c κs = search needs

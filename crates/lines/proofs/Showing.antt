@@ -9,7 +9,7 @@ use Rattle.rules.specs.Table.{most}
 use Rattle.rules.specs.Levels.{Point}
 use Rattle.rules.specs.Text.{refusalText}
 use Rattle.levels.specs.Copy.{pointHeld, noPoint, held}
-use Rattle.text.specs.Shown.{numbersText, pointOf, pointsIn}
+use Rattle.lines.specs.Shown.{numbersText, pointOf, pointsIn}
 
 -- a stored plan shows the points that it holds
 pub points-count : (ps : List Point) → held ps .count ≡ length ps

@@ -2,8 +2,8 @@ use Prim.Native.Nat.{_-_, _≤_}
 use native.Mathlib.Omega.{arith}
 use borrow.Author.Needs.{needs}
 use Rattle.image.proofs.Putting.{NumberLeft, number-start, number-next, number-put}
-use Rattle.image.proofs.put.put_number.Statement.{statement}
-use Rattle.image.proofs.put.put_number.Tie as tie
+use Rattle.image.proofs.put.put_little.Statement.{statement}
+use Rattle.image.proofs.put.put_little.Tie as tie
 
 abbrev Inv-loop : tie.InvT-loop
 Inv-loop bytes₀ at size n rest₀ i₀ bytes rest i = (i ≤ size) × NumberLeft bytes₀ at size n bytes rest i
@@ -38,8 +38,8 @@ same-length c = c .before .loop .inv .1 .size
 returns : tie.Need-returns Inv-loop μ-loop
 returns c = number-put _ _ _ _ _ _ (c .before .loop .inv .1) (omega arith)
 
-pub put-number-spec : {M : Type 1} → statement M
-put-number-spec =
+pub put-little-spec : {M : Type 1} → statement M
+put-little-spec =
     tie.close
     (tie.spec
     Inv-loop

@@ -2,8 +2,8 @@ use mathlib.Core.Path.{ap}
 use borrow.Author.Needs.{needs}
 use Rattle.records.specs.Read.{callIn}
 use Rattle.kernel.specs.Answers.{answerIn}
-use Rattle.run.proofs.events.share.Statement.{statement}
-use Rattle.run.proofs.events.share.Tie as tie
+use Rattle.run.proofs.events.bound_by.Statement.{statement}
+use Rattle.run.proofs.events.bound_by.Tie as tie
 
 enum-told : tie.Need-enum-told
 enum-told c = search needs
@@ -20,8 +20,8 @@ enum-told-3 c = search needs
 enum-told-4 : tie.Need-enum-told-4
 enum-told-4 c = search needs
 
-first-share-requires : tie.Need-first-share-requires
-first-share-requires c κs =
+first-less-one-requires : tie.Need-first-less-one-requires
+first-less-one-requires c κs =
     let p = c .before .before .before .before .before .pre in
     record { laid = p .laid; task = p .task _ _ _ _ _ (ap callIn (c .before .before .before .event .given .1)) (ap answerIn (c .enum-told4 .given .1)) }
 
@@ -35,10 +35,10 @@ returns-3 : tie.Need-returns-3
 returns-3 c = search needs
 
 returns-4 : tie.Need-returns-4
-returns-4 c = rw (c .before .before .before .before .event .given .1, c .before .enum-told4 .given .1) (c .first-share .ensures)
+returns-4 c = rw (c .before .before .before .before .event .given .1, c .before .enum-told4 .given .1) (c .first-less-one .ensures)
 
-pub share-spec : {M : Type 1} → statement M
-share-spec =
+pub bound-by-spec : {M : Type 1} → statement M
+bound-by-spec =
     tie.close
     (tie.spec
     enum-told
@@ -46,7 +46,7 @@ share-spec =
     enum-known-event
     enum-told-3
     enum-told-4
-    first-share-requires
+    first-less-one-requires
     returns
     returns-2
     returns-3

@@ -1,7 +1,7 @@
 use borrow.Author.Needs.{needs}
 use Rattle.laws.proofs.Buffers.{puts-then}
-use Rattle.text.proofs.lines.numbers_line.Statement.{statement}
-use Rattle.text.proofs.lines.numbers_line.Tie as tie
+use Rattle.lines.proofs.numbers_line.Statement.{statement}
+use Rattle.lines.proofs.numbers_line.Tie as tie
 
 put-byte-requires : tie.Need-put-byte-requires
 put-byte-requires c κs = search needs

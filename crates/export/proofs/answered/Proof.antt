@@ -1,7 +1,7 @@
 use borrow.Author.Needs.{needs}
 use Rattle.export.proofs.Doors.{answers-refused, answers-accepted}
-use Rattle.export.proofs.stored.Statement.{statement}
-use Rattle.export.proofs.stored.Tie as tie
+use Rattle.export.proofs.answered.Statement.{statement}
+use Rattle.export.proofs.answered.Tie as tie
 
 enum-known-given : tie.Need-enum-known-given
 enum-known-given c = search needs
@@ -44,8 +44,8 @@ returns-2 c =
     answers-accepted (s .args .called) (s .args .block .now) (s .args .answer .now) (kept .before .before .before .given2 .given .1) (kept .save .ensures)
     (told .before .before .number2 .ensures) (told .before .kind-of .ensures) (told .ticks-of .ensures)
 
-pub stored-spec : {M : Type 1} → statement M
-stored-spec =
+pub answered-spec : {M : Type 1} → statement M
+answered-spec =
     tie.close
     (tie.spec
     enum-known-given

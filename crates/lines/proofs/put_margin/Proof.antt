@@ -1,8 +1,8 @@
 use borrow.Author.Needs.{needs}
 use Rattle.laws.proofs.Buffers.{puts-then, puts-as}
 use Rattle.text.proofs.Signs.{text-in-word}
-use Rattle.text.proofs.lines.put_margin.Statement.{statement}
-use Rattle.text.proofs.lines.put_margin.Tie as tie
+use Rattle.lines.proofs.put_margin.Statement.{statement}
+use Rattle.lines.proofs.put_margin.Tie as tie
 
 put-byte-requires : tie.Need-put-byte-requires
 put-byte-requires c κs = search needs

@@ -10,8 +10,9 @@ use Rattle.laws.proofs.Buffers.{puts-none, puts-then, puts-as, puts-length}
 use Rattle.rules.specs.Text.{numberText, column, pointsText}
 use Rattle.levels.specs.declared.Plan.{Plan}
 use Rattle.levels.specs.declared.Point.{Point}
-use Rattle.text.specs.Shown.{pointOf, pointsIn}
-use Rattle.text.specs.Room.{numberRoom, columnRoom, pointsRoom}
+use Rattle.lines.specs.Shown.{pointOf, pointsIn}
+use Rattle.text.specs.Room.{numberRoom, columnRoom}
+use Rattle.lines.specs.Room.{pointsRoom}
 
 -- "` point:level`"
 abbrev pointText : Point → List ℕ

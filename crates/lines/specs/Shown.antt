@@ -8,7 +8,7 @@ use Rattle.rules.specs.Text.{column}
 use Rattle.levels.specs.declared.Plan.{Plan}
 use Rattle.levels.specs.declared.Point.{Point}
 use Rattle.kernel.specs.Answers.{marginIn}
-use Rattle.text.specs.declared.lines.Shown.{Shown}
+use Rattle.lines.specs.declared.Shown.{Shown}
 
 -- a letter and two numbers
 abbrev pub numbersText : ℕ → ℕ → ℕ → List ℕ

@@ -4,21 +4,24 @@
 //     P task first-level point:level ..
 //     E count answer running moves waiting margin
 //     S total bound
+//
+// Each function puts a line into a lent buffer from a place on, and gives back the place behind it. They are inner forms: each asks for
+// room for the longest line that it can put.
 ghost use Prim.Native.Nat.{_+_, _≤_};
 ghost use lib.ListN.{length};
 ghost use Rattle.laws.specs.Words.{Puts};
 ghost use Rattle.rules.specs.Table.{most};
 ghost use Rattle.rules.specs.Text.{marginText, pointsText, planText, eventText, sumText};
 ghost use Rattle.kernel.specs.Answers.{marginIn};
-ghost use Rattle.text.specs.Shown.{numbersText, pointsIn, shownAs};
-ghost use Rattle.text.specs.Room.{marginRoom, numbersRoom, pointsRoom, planRoom, eventRoom};
-use super::put_byte;
-use super::put_column;
-use super::put_number;
-use super::put_signed;
+ghost use Rattle.lines.specs.Shown.{numbersText, pointsIn, shownAs};
+ghost use Rattle.lines.specs.Room.{marginRoom, numbersRoom, pointsRoom, planRoom, eventRoom};
+use kernel::Level;
 use kernel::Margin;
-use levels::Plan;
-use table::Level;
+use kernel::Plan;
+use text::put_byte;
+use text::put_column;
+use text::put_number;
+use text::put_signed;
 
 // What an E line shows.
 pub struct Shown {

@@ -1,8 +1,8 @@
 use borrow.Author.Needs.{needs}
 use Rattle.laws.proofs.Buffers.{puts-then}
 use Rattle.rules.specs.Text.{eventText}
-use Rattle.text.proofs.lines.event_line.Statement.{statement}
-use Rattle.text.proofs.lines.event_line.Tie as tie
+use Rattle.lines.proofs.event_line.Statement.{statement}
+use Rattle.lines.proofs.event_line.Tie as tie
 
 put-byte-requires : tie.Need-put-byte-requires
 put-byte-requires c κs = search needs

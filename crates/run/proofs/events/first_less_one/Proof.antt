@@ -10,8 +10,8 @@ use Rattle.rules.proofs.Levels.{first-low}
 use Rattle.table.specs.Stored.{tableOf}
 use Rattle.table.proofs.Tests.{table-length}
 use Rattle.run.proofs.Laid.{laid-place, laid-first, laid-copied}
-use Rattle.run.proofs.events.first_share.Statement.{statement}
-use Rattle.run.proofs.events.first_share.Tie as tie
+use Rattle.run.proofs.events.first_less_one.Statement.{statement}
+use Rattle.run.proofs.events.first_less_one.Tie as tie
 
 long : (c : tie.Start) → length (c .args .t1 .table .tasks) ≡ most
 long c = search (needs, long-map)
@@ -48,8 +48,8 @@ sub-result c = let a = c .before .before .before .before .before .before .before
 returns : tie.Need-returns
 returns c = (ap (λ (l : ℕ). l - 1) (first c), search needs)
 
-pub first-share-spec : {M : Type 1} → statement M
-first-share-spec =
+pub first-less-one-spec : {M : Type 1} → statement M
+first-less-one-spec =
     tie.close
     (tie.spec
     cast-i

@@ -5,9 +5,9 @@ use borrow.Author.Needs.{needs}
 use lib.ListN.{length}
 use Rattle.laws.proofs.Arrays.{long-map}
 use Rattle.rules.specs.Table.{most}
-use Rattle.text.proofs.Points.{PointsPut, points-none, points-next, points-all}
-use Rattle.text.proofs.lines.put_points.Statement.{statement}
-use Rattle.text.proofs.lines.put_points.Tie as tie
+use Rattle.lines.proofs.Points.{PointsPut, points-none, points-next, points-all}
+use Rattle.lines.proofs.put_points.Statement.{statement}
+use Rattle.lines.proofs.put_points.Tie as tie
 
 abbrev Inv-loop : tie.InvT-loop
 Inv-loop buffer₀ at plan next₀ i₀ i-end buffer next i = (i ≤ i-end) × PointsPut buffer₀ at (plan .points) i next buffer

@@ -1,0 +1,3 @@
+-- Laws of the runner's lines.
+pub mod Points
+pub mod Showing

@@ -1,0 +1,3 @@
+-- What the contracts of `lines` cite beside the rules.
+pub mod Shown
+pub mod Room
