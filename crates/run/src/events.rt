@@ -22,12 +22,12 @@ use kernel::Called;
 use kernel::Margin;
 use kernel::TaskNo;
 use levels::first_level;
+use lines::Shown;
+use lines::event_line;
 use records::Event;
 use records::Found;
 use records::Record;
 use records::read;
-use lines::Shown;
-use lines::event_line;
 
 // How far a run has come: the block, the place behind the last line, how many events there were, the total of moves, and the bound of
 // demand 3.

@@ -21,13 +21,13 @@ use events::events;
 use kernel::Block;
 use kernel::Verdict;
 use kernel::start::start;
+use lines::refusal_line;
+use lines::sum_line;
 use plans::plan_lines;
 use stream::LONGEST;
 use stream::Stream;
 use stream::stream_test;
 use stream::table_in;
-use lines::refusal_line;
-use lines::sum_line;
 
 mod plans; // P lines
 mod events; // E lines
