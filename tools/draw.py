@@ -1,0 +1,409 @@
+#!/usr/bin/env python3
+"""Draws what happened: a lane a task, with when its jobs were released, waited, ran and were done, and what was refused.
+
+  tools/draw.py STREAM OUTPUT [--name NAME]
+
+STREAM has the bytes of a stream, OUTPUT what the runner printed for them; NAME stands on top of the picture, which is SVG, on standard
+output. Exit 1, if the stream is refused.
+
+Time goes to the right. The scale holds between neighbouring times: where a step is too short for what is written it is drawn longer, where
+it is very long it is drawn shorter and shows a break.
+"""
+import sys
+from typing import Callable, NamedTuple
+
+import door
+import refusals
+import report
+import shapes
+import show
+import stream
+import timeline
+from door import Wrong
+from shapes import group, path, text, wide
+from timeline import OTHERS, RUNS
+
+# pixels
+NARROW = 16           # the least distance of two times
+WIDE = 240            # the most for a step that is drawn to scale
+BROKEN = 56           # a step that is drawn shorter
+FILL = 740            # the times of a small picture together
+LEAST = 900           # a small picture
+EDGE = 14             # around it
+STUB = 22             # of a bar whose job is not done when the stream ends
+AGAIN = 1400          # the task numbers stand again after so much,
+BAND = 34             # in a band of this width
+NUMBER = 10           # height of the numbers below the axis
+SMALL = 11            # height of the legend's texts
+
+FAR = 8               # times the middle step: a longer one is drawn shorter
+ROWS = 3              # for the numbers below the axis
+MANY = 12             # lanes: from there on the axis stands on top, too
+
+
+class Look(NamedTuple):
+    """Heights in a lane: the notes on top, the bar below them."""
+    size: int
+    bar: int
+
+    @property
+    def above(self):
+        return self.size + 11
+
+    def lane(self, number):
+        return self.size + 8 if number == OTHERS else self.above + self.bar + 9
+
+
+class Axis(NamedTuple):
+    places: dict      # the x of each time
+    rows: dict        # the row in which the number of a time stands
+    breaks: set       # of times: the step behind each is drawn shorter
+    bands: list       # the x of each band of task numbers
+    right: float
+
+    @property
+    def height(self):
+        return 10 + (NUMBER + 2) * (max(self.rows.values()) + 1)
+
+
+class Scene(NamedTuple):
+    """What is drawn, and where."""
+    line: timeline.Timeline
+    look: Look
+    columns: list     # heading and right end of each column beside the lanes
+    axis: Axis
+    lanes: dict       # the y of each lane, by task; OTHERS only if something stands in it
+    top: float        # of the lanes
+    bottom: float
+
+
+def look_for(count):
+    """The more lanes, the lower they are."""
+    return Look(11, 18) if count <= 8 else Look(10, 14) if count <= 20 else Look(9, 11)
+
+
+def together(found, key):
+    """Those with one key, by it."""
+    groups = {}
+    for each in found:
+        groups.setdefault(key(each), []).append(each)
+    return groups
+
+
+# ---- the axis
+
+def times_of(line):
+    return sorted({0, *map(timeline.at, line.events), *(job.deadline for job in line.jobs)})
+
+
+def scale(steps, middle):
+    """Pixels a tick: so that the steps fill the picture, though the shortest are drawn longer; never less than the middle step needs."""
+    left, ticks = FILL, sum(steps)
+    for step in sorted(steps):
+        if step * left >= NARROW * ticks:
+            break
+        left, ticks = left - NARROW, ticks - step
+    fill = left / ticks if ticks and left > 0 else 0
+    return max(min(fill, WIDE / max(steps)), NARROW / middle)
+
+
+def distances(times):
+    """For each two neighbouring times the pixels between them; none, where the step is drawn shorter."""
+    steps = [after - before for before, after in zip(times, times[1:])]
+    middle = sorted(steps)[len(steps) // 2] if steps else 1
+    near = [step for step in steps if step <= FAR * middle]
+    pixels = scale(near, middle) if near else 0
+    return [max(NARROW, step * pixels) if step <= FAR * middle else None for step in steps]
+
+
+def span_rooms(line, times, size):
+    """By time: the spans that are over then, each as its begin and the pixels that it needs, for its level or for the stub of its bar."""
+    rooms = [(span.end, span.begin, 8 + wide(str(span.level), size)) for span in line.spans if span.level != RUNS and not span.open]
+    last = max((span.end for span in line.spans if span.open), default=times[-1])
+    rooms += [(time, last, STUB + 6) for time in times if time > last][:1]
+    return together(rooms, lambda each: each[0])
+
+
+def number_row(rows, x, half):
+    """The first row of numbers that has room at x, or else the one that has it first."""
+    return next((row for row, end in enumerate(rows) if end + half <= x), rows.index(min(rows)))
+
+
+def axis_of(line, size, left):
+    """Goes through the times from the left. Each stands as far from the one before as the scale says, and as what is written needs."""
+    times = times_of(line)
+    steps, spans, notes = distances(times), span_rooms(line, times, size), together(line.notes, lambda note: note.time)
+    places, rows, bands, x, lanes, numbers = {}, {}, [], left, {}, [0] * ROWS
+    for time, step in zip(times, [0] + steps):
+        here, half = notes.get(time, ()), wide(str(time), NUMBER) / 2 + 2
+        x += BROKEN if step is None else step
+        x = max([x, *(lanes.get(note.lane, 0) + 8 for note in here), *(places[begin] + need for _, begin, need in spans.get(time, ()))])
+        row = number_row(numbers, x, half)
+        x = max(x, numbers[row] + half)
+        if x - (bands[-1] if bands else left) > AGAIN:
+            bands.append(max([x, *lanes.values()]) + 20)
+            x = bands[-1] + BAND + 24
+        places[time], rows[time], numbers[row] = x, row, x + half
+        for note in here:
+            lanes[note.lane] = max(lanes.get(note.lane, 0), x - 6) + shapes.room(note.kind, note.text, size)
+    breaks = {time for time, step in zip(times, steps) if step is None}
+    return Axis(places, rows, breaks, bands, max([x + STUB, *lanes.values(), *numbers]))
+
+
+def axis_shapes(scene, y):
+    """The clock: a line with a tick and a number at each time, small ticks between them, and the breaks."""
+    places, events = scene.axis.places, together(scene.line.events, timeline.at)
+    yield text(scene.columns[-1][1], y + 4, "clock", scene.look.size, "dim end")
+    yield path("axis", ("M", places[0] - 6, y), ("H", scene.axis.right))
+    feet = {time: y + 5 + (NUMBER + 2) * row for time, row in scene.axis.rows.items()}
+    yield from (path("axis" if foot == y + 5 else "minor", ("M", places[time], y), ("V", foot)) for time, foot in feet.items())
+    for time, foot in feet.items():
+        title = "\n\n".join([f"clock {time}", *map(details, events.get(time, ()))])
+        yield group(title, text(places[time], foot + NUMBER, str(time), NUMBER, "number" + " dim" * (time not in events)))
+    for time, after in zip(places, list(places)[1:]):
+        between, ticks = places[after] - places[time], after - time
+        if time in scene.axis.breaks:
+            yield shapes.zigzag(places[time] + between / 2, y)
+        elif between >= 5 * ticks:
+            yield from (path("minor", ("M", places[time] + between * tick / ticks, y), ("v", 3)) for tick in range(1, ticks))
+
+
+# ---- the lanes
+
+def details(event):
+    """What there is to know of an event."""
+    reading, *task = event.item.numbers
+    *columns, margin = event.line
+    head = f"event {event.line.count}, reading {reading}" + "".join(f", task {number}" for number in task)
+    line = " ".join(["E", *map(str, columns), "-" if margin is None else str(margin)])
+    return f"{head}\n{line}\n{show.event_words(event.item.word, event.line)}"
+
+
+def span_title(span):
+    doing = "runs" if span.level == RUNS else f"waits at level {span.level}"
+    return f"task {span.job.task} {doing} from {span.begin} to {span.end}" + ", late" * span.late + ", not done" * span.open
+
+
+def bars(scene):
+    """When jobs run and wait; the level stands again behind each band."""
+    look, places, most = scene.look, scene.axis.places, max(task.plan.first for task in scene.line.tasks)
+    for span in scene.line.spans:
+        x, end, y = places[span.begin], places[span.end], scene.lanes[span.job.task] + look.above
+        fill = shapes.shade(span.level, most) if span.level != RUNS else None
+        parts = [shapes.bar(fill, span.late, x, y, end - x, look.bar)] if x < end else []
+        parts += [shapes.bar(fill, span.late, end, y, STUB, look.bar, " open")] if span.open else []
+        starts = [x] + [band + BAND for band in scene.axis.bands if x < band < end]
+        parts += [text(start + 4, y + look.bar / 2 + 0.36 * look.size, str(span.level), look.size) for start in starts if fill]
+        yield group(span_title(span), *parts)
+
+
+def arrows(scene):
+    """Each job's deadline and release."""
+    for job in scene.line.jobs:
+        top = scene.lanes[job.task] + scene.look.above
+        bottom, places = top + scene.look.bar, scene.axis.places
+        title = f"task {job.task}: deadline {job.deadline} of the job that was released at {job.release.time}"
+        yield group(title, shapes.deadline(places[job.deadline] - 1, top, bottom))
+        yield group(details(job.release), shapes.release(places[job.release.time], top, bottom))
+
+
+def pole_foot(scene, lane, kind):
+    """A refused call changes nothing: its pole does not cross the bar."""
+    if lane == OTHERS:
+        return scene.lanes[lane] + scene.look.lane(lane)
+    return scene.lanes[lane] + scene.look.above + (0 if kind == "refused" else scene.look.bar)
+
+
+def notes(scene):
+    """Side by side, where several stand in one lane at one time."""
+    size = scene.look.size
+    for (lane, time), here in together(scene.line.notes, lambda note: (note.lane, note.time)).items():
+        x, y = scene.axis.places[time], scene.lanes[lane] + size + 1
+        for kind in dict.fromkeys(note.kind for note in here):
+            yield path(f"pole {kind}", ("M", x, y + 1), ("V", pole_foot(scene, lane, kind)))
+        for note in here:
+            title = f"task {lane}: level {note.text}\n" * (note.kind == "move") + details(note.event)
+            yield group(title, shapes.note(note.kind, note.event.item.word, note.text, x, y, size))
+            x += shapes.room(note.kind, note.text, size)
+
+
+def lane_shapes(scene, width):
+    """What lies under the bars: a stripe for every other lane, and a line at each time."""
+    for lane, y in list(scene.lanes.items())[::2]:
+        yield shapes.box(EDGE, y, width - 2 * EDGE, scene.look.lane(lane), "lane")
+    for x in scene.axis.places.values():
+        yield path("grid", ("M", x, scene.top), ("V", scene.bottom))
+
+
+def middle(scene, lane):
+    """The foot of a text in the middle of a lane's bar."""
+    return scene.lanes[lane] + scene.look.above + scene.look.bar / 2 + 0.36 * scene.look.size
+
+
+def labels(scene):
+    """Task, C, D and T beside the lanes; the task again in each band."""
+    size = scene.look.size
+    yield from (text(right, scene.top - 5, heading, size, "dim end") for heading, right in scene.columns)
+    for band in scene.axis.bands:
+        yield shapes.box(band, scene.top, BAND, scene.bottom - scene.top, "band")
+        yield from (text(band + BAND / 2, middle(scene, task.number), str(task.number), size, "bold mid") for task in scene.line.tasks)
+    for task in scene.line.tasks:
+        title = f"task {task.number}: {show.task_words(task[1:4])}\n{show.plan_words(task.plan)}"
+        cells = zip(task, scene.columns, ("bold end", "end", "end", "end"))
+        yield group(title, *(text(right, middle(scene, task.number), str(number), size, style) for number, (_, right), style in cells))
+    if OTHERS in scene.lanes:
+        yield text(EDGE + 6, scene.lanes[OTHERS] + size + 1, "other calls", size)
+
+
+# ---- the legend
+
+def refused_calls(line):
+    """Each word and number that was refused, in order of the numbers."""
+    found = {(event.line.answer, event.item.word) for event in line.events if event.line.answer}
+    return [(word, number, refusals.numbered(number).when.removeprefix(f"{word}: ")) for number, word in sorted(found)]
+
+
+class Sample(NamedTuple):
+    """A line of the legend."""
+    width: float
+    shape: Callable   # at x; y is the foot of the words
+    words: str
+
+
+def bar_sample(level, late, more, words):
+    fill = None if level == RUNS else shapes.shade(level, 3)
+    number = "" if level == RUNS else str(level)
+    return Sample(24, lambda x, y: shapes.bar(fill, late, x, y - 10, 24, 13, more) + text(x + 4, y, number, SMALL), words)
+
+
+def arrow_sample(shape, words):
+    return Sample(8, lambda x, y: shape(x + 4, y - 4, y - 1), words)
+
+
+def note_sample(kind, written, words, word=""):
+    return Sample(shapes.room(kind, written, SMALL), lambda x, y: shapes.note(kind, word, written, x + 6, y, SMALL), words)
+
+
+def break_sample(words):
+    return Sample(18, lambda x, y: path("axis", ("M", x, y - 4), ("H", x + 18)) + shapes.zigzag(x + 9, y - 4), words)
+
+
+def samples(scene):
+    """Of what stands in the picture."""
+    line, kinds = scene.line, {note.kind for note in scene.line.notes}
+    found = [
+        (True, bar_sample(RUNS, False, "", "runs")),
+        (True, bar_sample(2, False, "", "waits at level 2")),
+        (any(span.late for span in line.spans), bar_sample(RUNS, True, "", "late")),
+        (any(span.open for span in line.spans), bar_sample(RUNS, False, " open", "not done at the end")),
+        (True, arrow_sample(shapes.release, "release")),
+        (True, arrow_sample(shapes.deadline, "deadline")),
+        ("done" in kinds, note_sample("done", "+1", "done, 1 tick before its deadline")),
+        ("late" in kinds, note_sample("late", "-1", "done, 1 tick late")),
+        ("move" in kinds, note_sample("move", "3→2", "promotion from level 3 to 2")),
+        ("clock" in kinds, note_sample("clock", "", "clock call")),
+        (scene.axis.breaks, break_sample("a step drawn shorter"))]
+    refused = [note_sample("refused", str(number), f"{word} refused: {when}", word) for word, number, when in refused_calls(line)]
+    return [sample for here, sample in found if here] + refused
+
+
+def legend(scene, y, width):
+    """The samples, row by row, and where they end."""
+    drawn, x = [], EDGE
+    for sample in samples(scene):
+        needed = sample.width + 5 + wide(sample.words, SMALL)
+        if x > EDGE and x + needed > width - EDGE:
+            x, y = EDGE, y + 18
+        drawn += [sample.shape(x, y + 12), text(x + sample.width + 5, y + 12, sample.words, SMALL)]
+        x += needed + 14
+    return drawn, y + 18
+
+
+# ---- the picture
+
+def summary(line, found):
+    """The counts in words; those that tell of trouble stand out."""
+    refused = sum(1 for event in line.events if event.line.answer)
+    late = len({span.job for span in line.spans if span.late})
+    return [(show.many(len(line.tasks), "task"), False), (show.many(len(line.jobs), "job"), False), (f"{late} late", late > 0),
+            (show.many(len(line.events), "event"), False), (f"{refused} refused", refused > 0),
+            (f"{show.many(found.total, 'move')} of at most {found.bound}", False)]
+
+
+def head(counts, name):
+    """The name and the counts, and where they end."""
+    y, drawn = EDGE + 12, []
+    if name:
+        drawn, y = [text(EDGE, y, name, 14, "bold")], y + 19
+    x = EDGE
+    for words, stands_out in counts:
+        drawn.append(text(x, y, words, 12, "late bold" if stands_out else ""))
+        x += wide(words, 12) + 14
+    return drawn, y + 10
+
+
+def columns_of(tasks, size):
+    """Heading and right end of each column beside the lanes."""
+    found, x = [], EDGE + 4
+    for at, heading in enumerate(("task", "C", "D", "T")):
+        x += max(wide(str(cell), size) for cell in (heading, *(task[at] for task in tasks))) + (10 if at else 0)
+        found.append((heading, x))
+    return found
+
+
+def scene_of(line, top):
+    """Lanes from the top, with the axis above them where they are many."""
+    numbers = [task.number for task in line.tasks] + [OTHERS] * any(note.lane == OTHERS for note in line.notes)
+    look = look_for(len(numbers))
+    columns = columns_of(line.tasks, look.size)
+    axis = axis_of(line, look.size, columns[-1][1] + 24)
+    y = top = top + look.size + 8 + (axis.height + 6 if len(numbers) > MANY else 0)
+    lanes = {}
+    for number in numbers:
+        lanes[number], y = y, y + look.lane(number)
+    return Scene(line, look, columns, axis, lanes, top, y)
+
+
+def picture(line, found, name):
+    """The lines of an SVG file."""
+    counts = summary(line, found)
+    title, y = head(counts, name)
+    scene = scene_of(line, y)
+    width = max(LEAST, scene.axis.right + EDGE, wide(name, 14) + 2 * EDGE)
+    key, height = legend(scene, scene.bottom + 14 + scene.axis.height, LEAST)
+    height += EDGE - 6
+    size = f'width="{shapes.px(width)}" height="{shapes.px(height)}" viewBox="0 0 {shapes.px(width)} {shapes.px(height)}"'
+    yield f'<svg xmlns="http://www.w3.org/2000/svg" {size} role="img">'
+    yield f"<title>{shapes.clean(', '.join([name] * bool(name) + [words for words, _ in counts]))}</title>"
+    yield f"<style>{shapes.STYLE}</style>"
+    yield shapes.box(0.5, 0.5, width - 1, height - 1, "page", ' rx="6"')
+    for part in (title, lane_shapes(scene, width), bars(scene), arrows(scene), notes(scene), labels(scene)):
+        yield from part
+    if len(scene.lanes) > MANY:
+        yield from axis_shapes(scene, y + 6)
+    yield from axis_shapes(scene, scene.bottom + 7)
+    yield from key
+    yield "</svg>"
+
+
+def refused(number, given):
+    """Says why there is no picture."""
+    refusal = refusals.numbered(number)
+    kind = "offset" if refusal.given.startswith("offset") else "task"
+    door.say(f"refused {number}" + (f" at {kind} {given}" if given or kind == "offset" else "") + f": {refusal.when}")
+    return 1
+
+
+def main(arguments):
+    if len(arguments) not in (2, 4) or arguments[2:3] not in ([], ["--name"]):
+        raise Wrong("usage: tools/draw.py STREAM OUTPUT [--name NAME]")
+    items, found = stream.items(door.content(arguments[0])), report.read(door.read(arguments[1]))
+    if found.refusal:
+        return refused(*found.refusal)
+    for line in picture(timeline.timeline(items, found), found, "".join(arguments[3:])):
+        print(line)
+    return 0
+
+
+if __name__ == "__main__":
+    sys.exit(door.main(main))
