@@ -70,12 +70,12 @@ def build_houses(folder):
     """For each toolchain that proves nothing a copy of the front door, with no crate built."""
     for name, text in TOOLCHAINS.items():
         house = folder / name
-        for part in ("meter", "tools", "docs", "examples", ".ci"):
-            source = ROOT / part
-            (shutil.copytree if source.is_dir() else shutil.copy)(source, house / part) if house.is_dir() or not house.mkdir() else None
-        (house / "crates").mkdir()
+        for part in ("crates", "kit"):
+            (house / part).mkdir(parents=True)
+        for part in ("tools", "docs"):
+            shutil.copytree(ROOT / part, house / part)
+        shutil.copy(ROOT / "meter", house / "meter")
         (house / "crates.txt").write_text(CRATES)
-        (house / "kit").mkdir()
         (house / "kit" / "rt").write_text(f"#!/bin/sh\n{text}\n")
         (house / "kit" / "rt").chmod(0o755)
 
@@ -83,7 +83,8 @@ def build_houses(folder):
 def tried(use, folder):
     """What a use gives, and what it leaves behind."""
     temporary = folder / "tmp"
-    temporary.mkdir(exist_ok=True)
+    shutil.rmtree(temporary, ignore_errors=True)
+    temporary.mkdir()
     settings = {**os.environ, "W": str(folder), "TMPDIR": str(temporary), "RUNNER": str(ROOT / "target" / "bin" / "runner"), "LC_ALL": "C.UTF-8"}
     run = subprocess.Popen(["bash", "-c", use.command], cwd=ROOT, env=settings, stdin=subprocess.DEVNULL, stdout=subprocess.PIPE, stderr=subprocess.PIPE,
                            start_new_session=True)

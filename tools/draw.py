@@ -6,8 +6,7 @@
 STREAM has the bytes of a stream, OUTPUT what the runner printed for them; NAME stands on top of the picture, which is SVG, on standard
 output. Exit 1, if the stream is refused.
 
-Time goes to the right. The scale holds between neighbouring times: where a step is too short for what is written it is drawn longer, where
-it is very long it is drawn shorter and shows a break.
+What is drawn comes from tools/timeline.py, where a time stands from tools/axis.py, and how a sign looks from tools/shapes.py.
 """
 import sys
 from typing import Callable, NamedTuple
@@ -19,26 +18,17 @@ import shapes
 import show
 import stream
 import timeline
+from axis import BAND, NUMBER, STUB, Axis, axis_of
 from door import Wrong
 from shapes import group, path, text, wide
-from timeline import OTHERS, RUNS
+from timeline import OTHERS, RUNS, together
 
 # pixels
-NARROW = 16           # the least distance of two times
-WIDE = 240            # the most for a step that is drawn to scale
-BROKEN = 56           # a step that is drawn shorter
-FILL = 740            # the times of a small picture together
 LEAST = 900           # a small picture
 EDGE = 14             # around it
-STUB = 22             # of a bar whose job is not done when the stream ends
-AGAIN = 1400          # the task numbers stand again after so much,
-BAND = 34             # in a band of this width
-NUMBER = 10           # height of the numbers below the axis
 SMALL = 11            # height of the legend's texts
 
-FAR = 8               # times the middle step: a longer one is drawn shorter
-ROWS = 3              # for the numbers below the axis
-MANY = 12             # lanes: from there on the axis stands on top, too
+MANY = 12             # lanes: the axis of more stands on top, too
 
 
 class Look(NamedTuple):
@@ -54,18 +44,6 @@ class Look(NamedTuple):
         return self.size + 8 if number == OTHERS else self.above + self.bar + 9
 
 
-class Axis(NamedTuple):
-    places: dict      # the x of each time
-    rows: dict        # the row in which the number of a time stands
-    breaks: set       # of times: the step behind each is drawn shorter
-    bands: list       # the x of each band of task numbers
-    right: float
-
-    @property
-    def height(self):
-        return 10 + (NUMBER + 2) * (max(self.rows.values()) + 1)
-
-
 class Scene(NamedTuple):
     """What is drawn, and where."""
     line: timeline.Timeline
@@ -75,6 +53,7 @@ class Scene(NamedTuple):
     lanes: dict       # the y of each lane, by task; OTHERS only if something stands in it
     top: float        # of the lanes
     bottom: float
+    width: float      # of the picture
 
 
 def look_for(count):
@@ -82,79 +61,13 @@ def look_for(count):
     return Look(11, 18) if count <= 8 else Look(10, 14) if count <= 20 else Look(9, 11)
 
 
-def together(found, key):
-    """Those with one key, by it."""
-    groups = {}
-    for each in found:
-        groups.setdefault(key(each), []).append(each)
-    return groups
-
-
 # ---- the axis
-
-def times_of(line):
-    return sorted({0, *map(timeline.at, line.events), *(job.deadline for job in line.jobs)})
-
-
-def scale(steps, middle):
-    """Pixels a tick: so that the steps fill the picture, though the shortest are drawn longer; never less than the middle step needs."""
-    left, ticks = FILL, sum(steps)
-    for step in sorted(steps):
-        if step * left >= NARROW * ticks:
-            break
-        left, ticks = left - NARROW, ticks - step
-    fill = left / ticks if ticks and left > 0 else 0
-    return max(min(fill, WIDE / max(steps)), NARROW / middle)
-
-
-def distances(times):
-    """For each two neighbouring times the pixels between them; none, where the step is drawn shorter."""
-    steps = [after - before for before, after in zip(times, times[1:])]
-    middle = sorted(steps)[len(steps) // 2] if steps else 1
-    near = [step for step in steps if step <= FAR * middle]
-    pixels = scale(near, middle) if near else 0
-    return [max(NARROW, step * pixels) if step <= FAR * middle else None for step in steps]
-
-
-def span_rooms(line, times, size):
-    """By time: the spans that are over then, each as its begin and the pixels that it needs, for its level or for the stub of its bar."""
-    rooms = [(span.end, span.begin, 8 + wide(str(span.level), size)) for span in line.spans if span.level != RUNS and not span.open]
-    last = max((span.end for span in line.spans if span.open), default=times[-1])
-    rooms += [(time, last, STUB + 6) for time in times if time > last][:1]
-    return together(rooms, lambda each: each[0])
-
-
-def number_row(rows, x, half):
-    """The first row of numbers that has room at x, or else the one that has it first."""
-    return next((row for row, end in enumerate(rows) if end + half <= x), rows.index(min(rows)))
-
-
-def axis_of(line, size, left):
-    """Goes through the times from the left. Each stands as far from the one before as the scale says, and as what is written needs."""
-    times = times_of(line)
-    steps, spans, notes = distances(times), span_rooms(line, times, size), together(line.notes, lambda note: note.time)
-    places, rows, bands, x, lanes, numbers = {}, {}, [], left, {}, [0] * ROWS
-    for time, step in zip(times, [0] + steps):
-        here, half = notes.get(time, ()), wide(str(time), NUMBER) / 2 + 2
-        x += BROKEN if step is None else step
-        x = max([x, *(lanes.get(note.lane, 0) + 8 for note in here), *(places[begin] + need for _, begin, need in spans.get(time, ()))])
-        row = number_row(numbers, x, half)
-        x = max(x, numbers[row] + half)
-        if x - (bands[-1] if bands else left) > AGAIN:
-            bands.append(max([x, *lanes.values()]) + 20)
-            x = bands[-1] + BAND + 24
-        places[time], rows[time], numbers[row] = x, row, x + half
-        for note in here:
-            lanes[note.lane] = max(lanes.get(note.lane, 0), x - 6) + shapes.room(note.kind, note.text, size)
-    breaks = {time for time, step in zip(times, steps) if step is None}
-    return Axis(places, rows, breaks, bands, max([x + STUB, *lanes.values(), *numbers]))
-
 
 def axis_shapes(scene, y):
     """The clock: a line with a tick and a number at each time, small ticks between them, and the breaks."""
     places, events = scene.axis.places, together(scene.line.events, timeline.at)
     yield text(scene.columns[-1][1], y + 4, "clock", scene.look.size, "dim end")
-    yield path("axis", ("M", places[0] - 6, y), ("H", scene.axis.right))
+    yield path("axis", ("M", places[0] - 6, y), ("H", scene.width - EDGE))
     feet = {time: y + 5 + (NUMBER + 2) * row for time, row in scene.axis.rows.items()}
     yield from (path("axis" if foot == y + 5 else "minor", ("M", places[time], y), ("V", foot)) for time, foot in feet.items())
     for time, foot in feet.items():
@@ -204,7 +117,7 @@ def arrows(scene):
         bottom, places = top + scene.look.bar, scene.axis.places
         title = f"task {job.task}: deadline {job.deadline} of the job that was released at {job.release.time}"
         yield group(title, shapes.deadline(places[job.deadline] - 1, top, bottom))
-        yield group(details(job.release), shapes.release(places[job.release.time], top, bottom))
+        yield group(details(job.release), shapes.release(places[job.release.time] + 0.8, top, bottom))
 
 
 def pole_foot(scene, lane, kind):
@@ -220,17 +133,17 @@ def notes(scene):
     for (lane, time), here in together(scene.line.notes, lambda note: (note.lane, note.time)).items():
         x, y = scene.axis.places[time], scene.lanes[lane] + size + 1
         for kind in dict.fromkeys(note.kind for note in here):
-            yield path(f"pole {kind}", ("M", x, y + 1), ("V", pole_foot(scene, lane, kind)))
+            yield path(f"pole {kind}", ("M", x - (kind in ("done", "late")), y + 1), ("V", pole_foot(scene, lane, kind)))
         for note in here:
             title = f"task {lane}: level {note.text}\n" * (note.kind == "move") + details(note.event)
             yield group(title, shapes.note(note.kind, note.event.item.word, note.text, x, y, size))
             x += shapes.room(note.kind, note.text, size)
 
 
-def lane_shapes(scene, width):
+def lane_shapes(scene):
     """What lies under the bars: a stripe for every other lane, and a line at each time."""
     for lane, y in list(scene.lanes.items())[::2]:
-        yield shapes.box(EDGE, y, width - 2 * EDGE, scene.look.lane(lane), "lane")
+        yield shapes.box(EDGE, y, scene.width - 2 * EDGE, scene.look.lane(lane), "lane")
     for x in scene.axis.places.values():
         yield path("grid", ("M", x, scene.top), ("V", scene.bottom))
 
@@ -292,12 +205,12 @@ def samples(scene):
     """Of what stands in the picture."""
     line, kinds = scene.line, {note.kind for note in scene.line.notes}
     found = [
-        (True, bar_sample(RUNS, False, "", "runs")),
-        (True, bar_sample(2, False, "", "waits at level 2")),
+        (any(span.level == RUNS for span in line.spans), bar_sample(RUNS, False, "", "runs")),
+        (any(span.level != RUNS for span in line.spans), bar_sample(2, False, "", "waits at level 2")),
         (any(span.late for span in line.spans), bar_sample(RUNS, True, "", "late")),
         (any(span.open for span in line.spans), bar_sample(RUNS, False, " open", "not done at the end")),
-        (True, arrow_sample(shapes.release, "release")),
-        (True, arrow_sample(shapes.deadline, "deadline")),
+        (line.jobs, arrow_sample(shapes.release, "release")),
+        (line.jobs, arrow_sample(shapes.deadline, "deadline")),
         ("done" in kinds, note_sample("done", "+1", "done, 1 tick before its deadline")),
         ("late" in kinds, note_sample("late", "-1", "done, 1 tick late")),
         ("move" in kinds, note_sample("move", "3→2", "promotion from level 3 to 2")),
@@ -307,16 +220,16 @@ def samples(scene):
     return [sample for here, sample in found if here] + refused
 
 
-def legend(scene, y, width):
+def legend(scene, y):
     """The samples, row by row, and where they end."""
     drawn, x = [], EDGE
     for sample in samples(scene):
         needed = sample.width + 5 + wide(sample.words, SMALL)
-        if x > EDGE and x + needed > width - EDGE:
+        if x > EDGE and x + needed > LEAST - EDGE:
             x, y = EDGE, y + 18
         drawn += [sample.shape(x, y + 12), text(x + sample.width + 5, y + 12, sample.words, SMALL)]
         x += needed + 14
-    return drawn, y + 18
+    return drawn, y + 18 if drawn else y
 
 
 # ---- the picture
@@ -351,43 +264,45 @@ def columns_of(tasks, size):
     return found
 
 
-def scene_of(line, top):
+def scene_of(line, name, top):
     """Lanes from the top, with the axis above them where they are many."""
     numbers = [task.number for task in line.tasks] + [OTHERS] * any(note.lane == OTHERS for note in line.notes)
     look = look_for(len(numbers))
     columns = columns_of(line.tasks, look.size)
-    axis = axis_of(line, look.size, columns[-1][1] + 24)
-    y = top = top + look.size + 8 + (axis.height + 6 if len(numbers) > MANY else 0)
+    times = axis_of(line, look.size, columns[-1][1] + 24)
+    y = top = top + look.size + 8 + (times.height + 6 if len(numbers) > MANY else 0)
     lanes = {}
     for number in numbers:
         lanes[number], y = y, y + look.lane(number)
-    return Scene(line, look, columns, axis, lanes, top, y)
+    return Scene(line, look, columns, times, lanes, top, y, max(LEAST, times.right + EDGE, wide(name, 14) + 2 * EDGE))
+
+
+def opening(width, height, title):
+    """The head of the file, and a white page: the picture may stand on a dark one."""
+    size = 'width="{0}" height="{1}" viewBox="0 0 {0} {1}"'.format(shapes.px(width), shapes.px(height))
+    yield f'<svg xmlns="http://www.w3.org/2000/svg" {size} role="img"><title>{shapes.clean(title)}</title>'
+    yield f"<style>{shapes.STYLE}</style>{shapes.HATCH}"
+    yield shapes.box(0.5, 0.5, width - 1, height - 1, "page", ' rx="6"')
 
 
 def picture(line, found, name):
     """The lines of an SVG file."""
     counts = summary(line, found)
-    title, y = head(counts, name)
-    scene = scene_of(line, y)
-    width = max(LEAST, scene.axis.right + EDGE, wide(name, 14) + 2 * EDGE)
-    key, height = legend(scene, scene.bottom + 14 + scene.axis.height, LEAST)
-    height += EDGE - 6
-    size = f'width="{shapes.px(width)}" height="{shapes.px(height)}" viewBox="0 0 {shapes.px(width)} {shapes.px(height)}"'
-    yield f'<svg xmlns="http://www.w3.org/2000/svg" {size} role="img">'
-    yield f"<title>{shapes.clean(', '.join([name] * bool(name) + [words for words, _ in counts]))}</title>"
-    yield f"<style>{shapes.STYLE}</style>"
-    yield shapes.box(0.5, 0.5, width - 1, height - 1, "page", ' rx="6"')
-    for part in (title, lane_shapes(scene, width), bars(scene), arrows(scene), notes(scene), labels(scene)):
+    title, top = head(counts, name)
+    scene = scene_of(line, name, top)
+    key, bottom = legend(scene, scene.bottom + 14 + scene.axis.height)
+    yield from opening(scene.width, bottom + 8, ", ".join([name] * bool(name) + [words for words, _ in counts]))
+    for part in (title, lane_shapes(scene), bars(scene), arrows(scene), notes(scene), labels(scene)):
         yield from part
     if len(scene.lanes) > MANY:
-        yield from axis_shapes(scene, y + 6)
+        yield from axis_shapes(scene, top + 6)
     yield from axis_shapes(scene, scene.bottom + 7)
     yield from key
     yield "</svg>"
 
 
-def refused(number, given):
-    """Says why there is no picture."""
+def no_picture(number, given):
+    """Says why: the stream is refused."""
     refusal = refusals.numbered(number)
     kind = "offset" if refusal.given.startswith("offset") else "task"
     door.say(f"refused {number}" + (f" at {kind} {given}" if given or kind == "offset" else "") + f": {refusal.when}")
@@ -399,7 +314,7 @@ def main(arguments):
         raise Wrong("usage: tools/draw.py STREAM OUTPUT [--name NAME]")
     items, found = stream.items(door.content(arguments[0])), report.read(door.read(arguments[1]))
     if found.refusal:
-        return refused(*found.refusal)
+        return no_picture(*found.refusal)
     for line in picture(timeline.timeline(items, found), found, "".join(arguments[3:])):
         print(line)
     return 0

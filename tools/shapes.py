@@ -12,7 +12,7 @@ text{{font-family:{FONT};fill:#1c2733}}
 .bold{{font-weight:bold}}.dim{{fill:#66707c}}.end{{text-anchor:end}}.mid{{text-anchor:middle}}
 .page{{fill:#fff;stroke:#d9dfe5}}.lane{{fill:#f3f5f8}}.band{{fill:#fff;fill-opacity:.86;stroke:#b9c2cc}}.grid{{stroke:#d9dfe5}}
 .axis{{stroke:#4a5561;fill:none}}.minor{{stroke:#9aa4ae}}.gap{{fill:#fff}}.number{{text-anchor:middle;stroke:#fff;stroke-width:3;paint-order:stroke}}
-.runs{{fill:#1f4f8f}}.runs.late{{fill:#d9262c}}.waits{{stroke:#7d93ad;stroke-width:.8}}.waits.late{{fill:#fbcfcc;stroke:#d9262c}}
+.runs{{fill:#1f4f8f}}.runs.late{{fill:url(#ran-late)}}.waits{{stroke:#7d93ad;stroke-width:.8}}.waits.late{{fill:url(#waited-late);stroke:#d9262c}}
 .open{{fill-opacity:.35;stroke-dasharray:3 2}}.runs.open{{stroke:#1f4f8f}}.runs.late.open{{stroke:#d9262c}}
 .release{{fill:#10161d;stroke:#10161d;stroke-width:1.6}}.deadline{{fill:#fff;stroke:#8227b5;stroke-width:1.5}}
 .done{{fill:#1d7a35}}.late{{fill:#c4161c}}.move{{fill:#7a4b00}}.clock{{fill:none;stroke:#4a5561;stroke-width:1.3}}
@@ -21,6 +21,11 @@ text{{font-family:{FONT};fill:#1c2733}}
 .pole{{fill:none;stroke-width:2}}.pole.done{{stroke:#1d7a35}}.pole.late{{stroke:#c4161c}}.pole.clock{{stroke-width:1}}
 .pole.move{{stroke:#7a4b00;stroke-width:1;stroke-dasharray:2 2}}.pole.refused{{stroke:#c4161c;stroke-width:1;stroke-dasharray:3 2}}
 """
+
+HATCH = "<defs>" + "".join(
+    f'<pattern id="{name}" width="5" height="5" patternUnits="userSpaceOnUse" patternTransform="rotate(45)">'
+    f'<rect width="5" height="5" fill="{ground}"/><rect width="1.2" height="5" fill="{stroke}"/></pattern>'
+    for name, ground, stroke in (("ran-late", "#d9262c", "#f08a86"), ("waited-late", "#fdd9d6", "#f6b5b0"))) + "</defs>"
 
 
 # ---- elements

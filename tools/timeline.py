@@ -6,7 +6,7 @@ All of it comes from the runner's lines: who runs from the E lines, levels from 
 the number that the runner gives (moves, number waiting, margin), so that nothing is shown that it did not say.
 """
 import bisect
-from typing import NamedTuple, Optional
+from typing import NamedTuple
 
 import report as printed
 from door import Wrong
@@ -31,28 +31,20 @@ class Job(NamedTuple):
 
 
 class Span(NamedTuple):
-    """A time in which a job runs or waits at one level, all of it before the deadline or all of it past."""
+    """A time in which a job runs, or waits at one level; all of it lies before the job's deadline, or all of it past."""
     job: Job
     begin: int
     end: int
-    level: int        # RUNS, or the level at which it waits
+    level: int        # at which it waits, or RUNS
     late: bool
     open: bool        # the stream ends, the job does not
-
-
-class Promotion(NamedTuple):
-    """A waiting job whose level fell at a call."""
-    job: Job
-    event: printed.Event
-    before: int
-    after: int
 
 
 class Note(NamedTuple):
     """What is written in a lane at a time."""
     lane: int         # a task, or OTHERS
     time: int
-    kind: str         # move; refused; done, late or clock, of an accepted event
+    kind: str         # of an event: done, late, clock or refused; of a waiting job whose level fell at it: move
     event: printed.Event
     text: str
 
@@ -70,6 +62,14 @@ def demand(fact):
         raise Wrong(APART)
 
 
+def together(found, key):
+    """Those with one key, by it."""
+    groups = {}
+    for each in found:
+        groups.setdefault(key(each), []).append(each)
+    return groups
+
+
 def at(event):
     """The time at which an event stands: that of its reading, or the clock where the counter went back."""
     return event.time if event.asked is None else event.asked
@@ -81,34 +81,47 @@ def level(task, age):
     return task.plan.points[passed - 1][1] if passed else task.plan.first
 
 
+def event_notes(event, count):
+    """That of one event, in a table of so many tasks; an accepted release has none."""
+    word, answer, margin = event.item.word, event.line.answer, event.line.margin
+    task = OTHERS if word == "clock" else event.item.numbers[1]
+    lane = task if task <= count else OTHERS
+    if answer:
+        return [Note(lane, at(event), "refused", event, str(answer))]
+    if word == "done":
+        return [Note(lane, event.time, "late" if margin < 0 else "done", event, f"{margin:+d}" if margin else "0")]
+    return [Note(lane, event.time, "clock", event, "")] if word == "clock" else []
+
+
 class Walk:
     """Goes from one accepted event to the next."""
 
     def __init__(self, tasks):
         self.tasks = tasks
         self.active = {}        # the job of each task that has one
-        self.state = {}         # of each active job, by task: RUNS or a level, and since when
+        self.doing = {}         # of each active job, by task: a level or RUNS, and since when
         self.clock = self.running = 0
-        self.jobs, self.spans, self.promotions = [], [], []
+        self.jobs, self.spans, self.notes = [], [], []
 
     def level(self, number, time):
         return level(self.tasks[number - 1], time - self.active[number].release.time)
 
     def close(self, number, end, open_end=False):
-        """Ends what the task's job was doing: a span, or one on each side of its deadline."""
-        job, (doing, begin) = self.active[number], self.state.pop(number)
+        """Ends what the task's job is doing: a span, or one on each side of its deadline."""
+        job, (doing, begin) = self.active[number], self.doing.pop(number)
         cuts = [begin, job.deadline, end] if begin < job.deadline < end else [begin, end]
         for first, last in zip(cuts, cuts[1:]):
             if first < last or open_end:
                 self.spans.append(Span(job, first, last, doing, last > job.deadline, open_end and last == end))
 
     def promote(self, event):
-        """The waiting jobs whose level is lower at the event's time than at the clock."""
+        """The moves: the waiting jobs whose level is lower at the event's time than at the clock."""
         waiting = [number for number in self.active if number != self.running]
-        fell = [Promotion(self.active[number], event, self.level(number, self.clock), self.level(number, event.time)) for number in waiting]
-        fell = [promotion for promotion in fell if promotion.after < promotion.before]
-        demand(len(fell) == event.line.moves)
-        self.promotions += fell
+        levels = [(number, self.level(number, self.clock), self.level(number, event.time)) for number in waiting]
+        moves = [Note(number, event.time, "move", event, f"{before}→{after}") for number, before, after in levels if after < before]
+        demand(len(moves) == event.line.moves)
+        self.notes += moves
+        self.clock = event.time
 
     def release(self, event, number):
         demand(1 <= number <= len(self.tasks) and number not in self.active)
@@ -127,44 +140,26 @@ class Walk:
         demand(len(self.active) - (self.running > 0) == event.line.waiting)
         for number in self.active:
             doing = RUNS if number == self.running else self.level(number, event.time)
-            if number in self.state and self.state[number][0] != doing:
+            if number in self.doing and self.doing[number][0] != doing:
                 self.close(number, event.time)
-            self.state.setdefault(number, (doing, event.time))
+            self.doing.setdefault(number, (doing, event.time))
 
-    def accepted(self, event):
-        self.promote(event)
-        self.clock = event.time
-        if event.item.word == "release":
-            self.release(event, event.item.numbers[1])
-        elif event.item.word == "done":
-            self.done(event, event.item.numbers[1])
-        self.dispatch(event)
+    def step(self, event):
+        """A refused event changes nothing."""
+        if event.line.answer == 0:
+            self.promote(event)
+            if event.item.word == "release":
+                self.release(event, event.item.numbers[1])
+            elif event.item.word == "done":
+                self.done(event, event.item.numbers[1])
+            self.dispatch(event)
+        self.notes += event_notes(event, len(self.tasks))
 
-
-# ---- what is written
-
-def promotion_notes(promotions):
-    return [Note(p.job.task, p.event.time, "move", p.event, f"{p.before}→{p.after}") for p in promotions]
-
-
-def event_note(event, count):
-    """That of one event; an accepted release has none."""
-    word, answer, margin = event.item.word, event.line.answer, event.line.margin
-    task = event.item.numbers[1] if word != "clock" else OTHERS
-    lane = task if task <= count else OTHERS
-    if answer:
-        return Note(lane, at(event), "refused", event, str(answer))
-    if word == "done":
-        return Note(lane, event.time, "late" if margin < 0 else "done", event, f"{margin:+d}" if margin else "0")
-    return Note(lane, event.time, "clock", event, "") if word == "clock" else None
-
-
-# ---- all of it
 
 def last_time(events):
-    """Up to which the runner says who runs: the last accepted event, and the refused ones behind it."""
+    """The last of which the runner says who runs: that of the last accepted event, or of a refused one behind it."""
     accepted = [place for place, event in enumerate(events) if event.line.answer == 0]
-    return max((at(event) for event in events[accepted[-1]:]), default=0) if accepted else 0
+    return max(at(event) for event in events[accepted[-1]:]) if accepted else 0
 
 
 def timeline(items, report):
@@ -172,9 +167,8 @@ def timeline(items, report):
     events = printed.events(items, report)
     walk = Walk([Task(number, *record, plan) for number, (record, plan) in enumerate(zip(records, report.plans), 1)])
     for event in events:
-        if event.line.answer == 0:
-            walk.accepted(event)
-    for number in sorted(walk.active):
-        walk.close(number, last_time(events), open_end=True)
-    notes = promotion_notes(walk.promotions) + [note for event in events if (note := event_note(event, len(walk.tasks)))]
-    return Timeline(walk.tasks, events, walk.jobs, walk.spans, sorted(notes, key=lambda note: note.event.line.count))
+        walk.step(event)
+    last = last_time(events)
+    for number in walk.active:
+        walk.close(number, last, open_end=True)
+    return Timeline(walk.tasks, events, walk.jobs, walk.spans, walk.notes)
