@@ -267,7 +267,7 @@ def columns_of(tasks, size):
 def scene_of(line, name, top):
     """Lanes from the top, with the axis above them where they are many."""
     numbers = [task.number for task in line.tasks] + [OTHERS] * any(note.lane == OTHERS for note in line.notes)
-    look = look_for(len(numbers))
+    look = look_for(len(line.tasks))
     columns = columns_of(line.tasks, look.size)
     times = axis_of(line, look.size, columns[-1][1] + 24)
     y = top = top + look.size + 8 + (times.height + 6 if len(numbers) > MANY else 0)

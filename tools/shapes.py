@@ -6,7 +6,7 @@ from xml.sax.saxutils import escape
 
 FONT = "Helvetica,Arial,'Liberation Sans','DejaVu Sans',sans-serif"
 URGENT, CALM = (142, 181, 224), (236, 243, 250)     # colours of level 1 and of the last level
-WIDTHS = {letter: width for letters, width in (("ijl.,:;'|! ", 0.32), ("frtI-()/", 0.42), ("mwMW%@", 1)) for letter in letters}
+WIDTHS = {letter: width for letters, width in (("ijl.,:;'|! ", 0.32), ("frtI-()/", 0.42), ("w", 0.82), ("mMW%@", 1)) for letter in letters}
 STYLE = f"""
 text{{font-family:{FONT};fill:#1c2733}}
 .bold{{font-weight:bold}}.dim{{fill:#66707c}}.end{{text-anchor:end}}.mid{{text-anchor:middle}}
