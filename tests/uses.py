@@ -3,7 +3,7 @@
 
   tests/uses.py [TEXT]        exit 0: all are as written; 1: those that are not, with what was seen. With TEXT, only uses that have it
 
-The runner must have been built. Each use is a command that bash runs in the repository's folder, with W, a folder of its own:
+The runner is built first, if it is not. Each use is a command that bash runs in the repository's folder, with W, a folder of its own:
   $ COMMAND           the use
   | LINE              a line on standard output
   ! LINE              a line on standard error
@@ -123,6 +123,7 @@ def main():
     if len(sys.argv) > 2:
         print("usage: tests/uses.py [TEXT]", file=sys.stderr)
         return 2
+    subprocess.run([ROOT / "meter", "run", ROOT / "examples" / "paper.txt"], stdout=subprocess.DEVNULL, check=False)
     wanted = [use for use in uses(TEXT.read_text()) if len(sys.argv) == 1 or sys.argv[1] in use.command]
     with tempfile.TemporaryDirectory() as made:
         folder = pathlib.Path(made)
