@@ -28,37 +28,28 @@ LEAST = 900           # a small picture
 EDGE = 14             # around it
 SMALL = 11            # height of the legend's texts
 
-MANY = 12             # lanes: the axis of more stands on top, too
+FEW, MANY = 8, 20     # tasks: of more, lanes are lower; and above more than a few the axis stands once again
 
 
-class Look(NamedTuple):
-    """Heights in a lane: the notes on top, the bar below them."""
-    size: int
-    bar: int
-
-    @property
-    def above(self):
-        return self.size + 11
-
-    def lane(self, number):
-        return self.size + 8 if number == OTHERS else self.above + self.bar + 9
+class Lane(NamedTuple):
+    """Heights in the picture. Above the bar are notes; a low lane has no bar."""
+    top: float
+    bar: float        # its top
+    end: float        # and its bottom
+    bottom: float
+    label: float      # the foot of the texts beside it
 
 
 class Scene(NamedTuple):
     """What is drawn, and where."""
     line: timeline.Timeline
-    look: Look
+    size: int         # of the texts
     columns: list     # heading and right end of each column beside the lanes
     axis: Axis
-    lanes: dict       # the y of each lane, by task; OTHERS only if something stands in it
+    lanes: dict       # by task; OTHERS only if something stands in it
     top: float        # of the lanes
     bottom: float
     width: float      # of the picture
-
-
-def look_for(count):
-    """The more lanes, the lower they are."""
-    return Look(11, 18) if count <= 8 else Look(10, 14) if count <= 20 else Look(9, 11)
 
 
 # ---- the axis
@@ -66,7 +57,7 @@ def look_for(count):
 def axis_shapes(scene, y):
     """The clock: a line with a tick and a number at each time, small ticks between them, and the breaks."""
     places, events = scene.axis.places, together(scene.line.events, timeline.at)
-    yield text(scene.columns[-1][1], y + 4, "clock", scene.look.size, "dim end")
+    yield text(scene.columns[-1][1], y + 4, "clock", scene.size, "dim end")
     yield path("axis", ("M", places[0] - 6, y), ("H", scene.width - EDGE))
     feet = {time: y + 5 + (NUMBER + 2) * row for time, row in scene.axis.rows.items()}
     yield from (path("axis" if foot == y + 5 else "minor", ("M", places[time], y), ("V", foot)) for time, foot in feet.items())
@@ -99,73 +90,65 @@ def span_title(span):
 
 def bars(scene):
     """When jobs run and wait; the level stands again behind each band."""
-    look, places, most = scene.look, scene.axis.places, max(task.plan.first for task in scene.line.tasks)
+    places, most = scene.axis.places, max(task.plan.first for task in scene.line.tasks)
     for span in scene.line.spans:
-        x, end, y = places[span.begin], places[span.end], scene.lanes[span.job.task] + look.above
-        fill = shapes.shade(span.level, most) if span.level != RUNS else None
-        parts = [shapes.bar(fill, span.late, x, y, end - x, look.bar)] if x < end else []
-        parts += [shapes.bar(fill, span.late, end, y, STUB, look.bar, " open")] if span.open else []
+        x, end, lane = places[span.begin], places[span.end], scene.lanes[span.job.task]
+        fill, height = shapes.shade(span.level, most) if span.level != RUNS else None, lane.end - lane.bar
+        parts = [shapes.bar(fill, span.late, x, lane.bar, end - x, height)] if x < end else []
+        parts += [shapes.bar(fill, span.late, end, lane.bar, STUB, height, " open")] if span.open else []
         starts = [x] + [band + BAND for band in scene.axis.bands if x < band < end]
-        parts += [text(start + 4, y + look.bar / 2 + 0.36 * look.size, str(span.level), look.size) for start in starts if fill]
+        parts += [text(start + 4, lane.label, str(span.level), scene.size) for start in starts if fill]
         yield group(span_title(span), *parts)
 
 
 def arrows(scene):
     """Each job's deadline and release."""
+    places = scene.axis.places
     for job in scene.line.jobs:
-        top = scene.lanes[job.task] + scene.look.above
-        bottom, places = top + scene.look.bar, scene.axis.places
+        lane = scene.lanes[job.task]
         title = f"task {job.task}: deadline {job.deadline} of the job that was released at {job.release.time}"
-        yield group(title, shapes.deadline(places[job.deadline] - 1, top, bottom))
-        yield group(details(job.release), shapes.release(places[job.release.time] + 0.8, top, bottom))
+        yield group(title, shapes.deadline(places[job.deadline] - 1, lane.bar, lane.end))
+        yield group(details(job.release), shapes.release(places[job.release.time] + 0.8, lane.bar, lane.end))
 
 
-def pole_foot(scene, lane, kind):
-    """A refused call changes nothing: its pole does not cross the bar."""
-    if lane == OTHERS:
-        return scene.lanes[lane] + scene.look.lane(lane)
-    return scene.lanes[lane] + scene.look.above + (0 if kind == "refused" else scene.look.bar)
+def pole(kind, x, y, lane):
+    """From a note down to its time. A refused call changes nothing: its pole does not cross the bar."""
+    return path(f"pole {kind}", ("M", x - (kind in ("done", "late")), y + 1), ("V", lane.bar if kind == "refused" else lane.end))
 
 
 def notes(scene):
     """Side by side, where several stand in one lane at one time."""
-    size = scene.look.size
-    for (lane, time), here in together(scene.line.notes, lambda note: (note.lane, note.time)).items():
-        x, y = scene.axis.places[time], scene.lanes[lane] + size + 1
-        for kind in dict.fromkeys(note.kind for note in here):
-            yield path(f"pole {kind}", ("M", x - (kind in ("done", "late")), y + 1), ("V", pole_foot(scene, lane, kind)))
+    for (number, time), here in together(scene.line.notes, lambda note: (note.lane, note.time)).items():
+        lane, x = scene.lanes[number], scene.axis.places[time]
+        y = lane.top + scene.size + 1
+        yield from (pole(kind, x, y, lane) for kind in dict.fromkeys(note.kind for note in here))
         for note in here:
-            title = f"task {lane}: level {note.text}\n" * (note.kind == "move") + details(note.event)
-            yield group(title, shapes.note(note.kind, note.event.item.word, note.text, x, y, size))
-            x += shapes.room(note.kind, note.text, size)
+            title = f"task {number}: level {note.text}\n" * (note.kind == "move") + details(note.event)
+            yield group(title, shapes.note(note.kind, note.event.item.word, note.text, x, y, scene.size))
+            x += shapes.room(note.kind, note.text, scene.size)
 
 
-def lane_shapes(scene):
-    """What lies under the bars: a stripe for every other lane, and a line at each time."""
-    for lane, y in list(scene.lanes.items())[::2]:
-        yield shapes.box(EDGE, y, scene.width - 2 * EDGE, scene.look.lane(lane), "lane")
+def stripes(scene):
+    """What lies under the bars: every other lane, and a line at each time."""
+    for lane in list(scene.lanes.values())[::2]:
+        yield shapes.box(EDGE, lane.top, scene.width - 2 * EDGE, lane.bottom - lane.top, "lane")
     for x in scene.axis.places.values():
         yield path("grid", ("M", x, scene.top), ("V", scene.bottom))
 
 
-def middle(scene, lane):
-    """The foot of a text in the middle of a lane's bar."""
-    return scene.lanes[lane] + scene.look.above + scene.look.bar / 2 + 0.36 * scene.look.size
-
-
 def labels(scene):
     """Task, C, D and T beside the lanes; the task again in each band."""
-    size = scene.look.size
+    size, lanes, tasks = scene.size, scene.lanes, scene.line.tasks
     yield from (text(right, scene.top - 5, heading, size, "dim end") for heading, right in scene.columns)
     for band in scene.axis.bands:
         yield shapes.box(band, scene.top, BAND, scene.bottom - scene.top, "band")
-        yield from (text(band + BAND / 2, middle(scene, task.number), str(task.number), size, "bold mid") for task in scene.line.tasks)
-    for task in scene.line.tasks:
+        yield from (text(band + BAND / 2, lanes[task.number].label, str(task.number), size, "bold mid") for task in tasks)
+    for task in tasks:
         title = f"task {task.number}: {show.task_words(task[1:4])}\n{show.plan_words(task.plan)}"
         cells = zip(task, scene.columns, ("bold end", "end", "end", "end"))
-        yield group(title, *(text(right, middle(scene, task.number), str(number), size, style) for number, (_, right), style in cells))
-    if OTHERS in scene.lanes:
-        yield text(EDGE + 6, scene.lanes[OTHERS] + size + 1, "other calls", size)
+        yield group(title, *(text(right, lanes[task.number].label, str(number), size, style) for number, (_, right), style in cells))
+    if OTHERS in lanes:
+        yield text(EDGE + 6, lanes[OTHERS].label, "other calls", size)
 
 
 # ---- the legend
@@ -264,17 +247,31 @@ def columns_of(tasks, size):
     return found
 
 
-def scene_of(line, name, top):
-    """Lanes from the top, with the axis above them where they are many."""
-    numbers = [task.number for task in line.tasks] + [OTHERS] * any(note.lane == OTHERS for note in line.notes)
-    look = look_for(len(line.tasks))
-    columns = columns_of(line.tasks, look.size)
-    times = axis_of(line, look.size, columns[-1][1] + 24)
-    y = top = top + look.size + 8 + (times.height + 6 if len(numbers) > MANY else 0)
+def lanes_of(line, size, bar, top):
+    """One below the other; where there are many, those without a job are low."""
+    busy, others = {job.task for job in line.jobs}, any(note.lane == OTHERS for note in line.notes)
     lanes = {}
-    for number in numbers:
-        lanes[number], y = y, y + look.lane(number)
-    return Scene(line, look, columns, times, lanes, top, y, max(LEAST, times.right + EDGE, wide(name, 14) + 2 * EDGE))
+    for number in [task.number for task in line.tasks] + [OTHERS] * others:
+        if number == OTHERS or (len(line.tasks) > FEW and number not in busy):
+            bottom = top + size + 8
+            lanes[number] = Lane(top, bottom, bottom, bottom, top + size + 1)
+        else:
+            above = top + size + 11
+            lanes[number] = Lane(top, above, above + bar, above + bar + 8, above + bar / 2 + 0.36 * size)
+        top = lanes[number].bottom
+    return lanes
+
+
+def scene_of(line, name, top):
+    """Lanes below the top, the more the lower, and the axis above them where they are many."""
+    count = len(line.tasks)
+    size, bar = (11, 18) if count <= FEW else (10, 14) if count <= MANY else (9, 11)
+    columns = columns_of(line.tasks, size)
+    axis = axis_of(line, size, columns[-1][1] + 24)
+    top += size + 8 + (axis.height + 6 if count > FEW else 0)
+    lanes = lanes_of(line, size, bar, top)
+    width = max(LEAST, axis.right + EDGE, wide(name, 14) + 2 * EDGE)
+    return Scene(line, size, columns, axis, lanes, top, max(lane.bottom for lane in lanes.values()), width)
 
 
 def opening(width, height, title):
@@ -292,9 +289,9 @@ def picture(line, found, name):
     scene = scene_of(line, name, top)
     key, bottom = legend(scene, scene.bottom + 14 + scene.axis.height)
     yield from opening(scene.width, bottom + 8, ", ".join([name] * bool(name) + [words for words, _ in counts]))
-    for part in (title, lane_shapes(scene), bars(scene), arrows(scene), notes(scene), labels(scene)):
+    for part in (title, stripes(scene), bars(scene), arrows(scene), notes(scene), labels(scene)):
         yield from part
-    if len(scene.lanes) > MANY:
+    if len(line.tasks) > FEW:
         yield from axis_shapes(scene, top + 6)
     yield from axis_shapes(scene, scene.bottom + 7)
     yield from key
@@ -315,7 +312,7 @@ def main(arguments):
     items, found = stream.items(door.content(arguments[0])), report.read(door.read(arguments[1]))
     if found.refusal:
         return no_picture(*found.refusal)
-    for line in picture(timeline.timeline(items, found), found, "".join(arguments[3:])):
+    for line in picture(timeline.timeline(items, found), found, door.called("".join(arguments[3:]))):
         print(line)
     return 0
 

@@ -2,24 +2,27 @@
 
 All sizes are pixels. Texts are not measured but reckoned by `wide`, so the same bytes come out on any machine.
 """
+import re
 from xml.sax.saxutils import escape
 
-FONT = "Helvetica,Arial,'Liberation Sans','DejaVu Sans',sans-serif"
+UNFIT = re.compile("[^\n\x20-\x7e\xa0-\ud7ff\ue000-\ufffd\U00010000-\U0010ffff]")
 URGENT, CALM = (142, 181, 224), (236, 243, 250)     # colours of level 1 and of the last level
 WIDTHS = {letter: width for letters, width in (("ijl.,:;'|! ", 0.32), ("frtI-()/", 0.42), ("w", 0.82), ("mMW%@", 1)) for letter in letters}
-STYLE = f"""
-text{{font-family:{FONT};fill:#1c2733}}
-.bold{{font-weight:bold}}.dim{{fill:#66707c}}.end{{text-anchor:end}}.mid{{text-anchor:middle}}
-.page{{fill:#fff;stroke:#d9dfe5}}.lane{{fill:#f3f5f8}}.band{{fill:#fff;fill-opacity:.86;stroke:#b9c2cc}}.grid{{stroke:#d9dfe5}}
-.axis{{stroke:#4a5561;fill:none}}.minor{{stroke:#9aa4ae}}.gap{{fill:#fff}}.number{{text-anchor:middle;stroke:#fff;stroke-width:3;paint-order:stroke}}
-.runs{{fill:#1f4f8f}}.runs.late{{fill:url(#ran-late)}}.waits{{stroke:#7d93ad;stroke-width:.8}}.waits.late{{fill:url(#waited-late);stroke:#d9262c}}
-.open{{fill-opacity:.35;stroke-dasharray:3 2}}.runs.open{{stroke:#1f4f8f}}.runs.late.open{{stroke:#d9262c}}
-.release{{fill:#10161d;stroke:#10161d;stroke-width:1.6}}.deadline{{fill:#fff;stroke:#8227b5;stroke-width:1.5}}
-.done{{fill:#1d7a35}}.late{{fill:#c4161c}}.move{{fill:#7a4b00}}.clock{{fill:none;stroke:#4a5561;stroke-width:1.3}}
-.chip{{fill:#c4161c}}.on{{fill:#fff;font-weight:bold}}.sign{{fill:#fff;stroke:#fff;stroke-width:1.3}}
-.hand{{fill:none;stroke:#fff;stroke-width:1.3}}
-.pole{{fill:none;stroke-width:2}}.pole.done{{stroke:#1d7a35}}.pole.late{{stroke:#c4161c}}.pole.clock{{stroke-width:1}}
-.pole.move{{stroke:#7a4b00;stroke-width:1;stroke-dasharray:2 2}}.pole.refused{{stroke:#c4161c;stroke-width:1;stroke-dasharray:3 2}}
+STYLE = """
+text{font-family:Helvetica,Arial,'Liberation Sans','DejaVu Sans',sans-serif;fill:#1c2733}
+.bold{font-weight:bold}.dim{fill:#66707c}.end{text-anchor:end}.mid{text-anchor:middle}
+.page{fill:#fff;stroke:#d9dfe5}.lane{fill:#f3f5f8}.band{fill:#fff;fill-opacity:.86;stroke:#b9c2cc}.grid{stroke:#d9dfe5}
+.axis{stroke:#4a5561;fill:none}.minor{stroke:#9aa4ae}.gap{fill:#fff}
+.number{text-anchor:middle;stroke:#fff;stroke-width:3;paint-order:stroke}
+.runs{fill:#1f4f8f}.runs.late{fill:url(#ran-late)}
+.waits{stroke:#7d93ad;stroke-width:.8}.waits.late{fill:url(#waited-late);stroke:#d9262c}
+.open{fill-opacity:.35;stroke-dasharray:3 2}.runs.open{stroke:#1f4f8f}.runs.late.open{stroke:#d9262c}
+.release{fill:#10161d;stroke:#10161d;stroke-width:1.6}.deadline{fill:#fff;stroke:#8227b5;stroke-width:1.5}
+.done{fill:#1d7a35}.late{fill:#c4161c}.move{fill:#7a4b00}.clock{fill:none;stroke:#4a5561;stroke-width:1.3}
+.chip{fill:#c4161c}.on{fill:#fff;font-weight:bold}.sign{fill:#fff;stroke:#fff;stroke-width:1.3}
+.hand{fill:none;stroke:#fff;stroke-width:1.3}
+.pole{fill:none;stroke-width:2}.pole.done{stroke:#1d7a35}.pole.late{stroke:#c4161c}.pole.clock{stroke-width:1}
+.pole.move{stroke:#7a4b00;stroke-width:1;stroke-dasharray:2 2}.pole.refused{stroke:#c4161c;stroke-width:1;stroke-dasharray:3 2}
 """
 
 HATCH = "<defs>" + "".join(
@@ -37,7 +40,7 @@ def px(value):
 
 def clean(words):
     """A text as XML may hold it."""
-    return escape("".join(sign if sign.isprintable() or sign == "\n" else "\N{REPLACEMENT CHARACTER}" for sign in words))
+    return escape(UNFIT.sub("\N{REPLACEMENT CHARACTER}", words))
 
 
 def wide(words, size):
