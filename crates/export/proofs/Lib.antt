@@ -1,4 +1,5 @@
 -- Laws of the doors for other languages.
 pub mod Margins
 pub mod Doors
+pub mod Plans
 pub mod Results

@@ -6,6 +6,7 @@ use Prim.Native.Nat.{ℕ}
 use lib.ListN.{length}
 use Rattle.laws.specs.Words.{digit, written}
 use Rattle.laws.proofs.Bools.{decides-one}
+use Rattle.laws.proofs.Buffers.{puts-one}
 use Rattle.rules.specs.Numbers.{Verdict, Passed, Failed, firstOf}
 use Rattle.rules.specs.Calls.{Call, Answer, Accepted, Refused}
 use Rattle.rules.specs.Records.{runnerTests, tasksRead}
@@ -18,10 +19,11 @@ use Rattle.kernel.specs.Block.{Whole}
 use Rattle.kernel.specs.Answers.{answerIn}
 use Rattle.kernel.specs.Asks.{listedIn}
 use Rattle.kernel.proofs.Views.{Sizes}
+use Rattle.kernel.proofs.Fifteen.{both-15}
 use Rattle.kernel.proofs.Results.{gives-one, listing-one}
 use Rattle.kernel.proofs.Starting.{start-one}
 use Rattle.image.specs.Bytes.{size, bytesOf, blockIn}
-use Rattle.export.specs.Door.{isBlock, AnswersBy, Answers, TellsBy, Tells, StartBy, TellsStartBy, TellsStart, numberBy, TellsListingBy, TellsListing, TellsWhole}
+use Rattle.export.specs.Door.{isBlock, AnswersBy, Answers, TellsBy, Tells, StartBy, TellsStartBy, TellsStart, numberBy, TellsListingBy, TellsListing, TellsPlanBy, TellsPlan, TellsWhole}
 
 -- ---- a call
 
@@ -79,7 +81,7 @@ module _ (s : List ℕ) (reading : ℕ) (bytes : List ℕ) (r : ℕ) (after : Li
       go true p q long wide = begun-one (firstOf (runnerTests s)) p q long wide
       go false p q long wide = (q .0 ∙ sym (p .0), q .1 ∙ sym (p .1))
 
--- ---- the listing, and whether a block is whole
+-- ---- the listing, a plan, and whether a block is whole
 
 pub lists-one : (bytes before : List ℕ) (r : ℕ) (after : List ℕ) (x : ℕ) (last : List ℕ) → TellsListing bytes before r after → TellsListing bytes before x last → (x ≡ r) × (last ≡ after)
 lists-one bytes before r after x last = go (isBlock bytes)
@@ -88,6 +90,13 @@ lists-one bytes before r after x last = go (isBlock bytes)
     go true p q =
         let same = listing-one (blockIn bytes) before (p .0) (q .0) after last (p .1) (q .1) in
         (q .2 ∙ ap₂ (λ (l : Listed) (buffer : List ℕ). numberBy (listedIn l buffer .waiting) (listedIn l buffer .verdict)) (same .0) (same .1) ∙ sym (p .2), same .1)
+    go false p q = (q .0 ∙ sym (p .0), q .1 ∙ sym (p .1))
+
+pub plans-one : (bytes : List ℕ) (k : ℕ) (before : List ℕ) (r : ℕ) (after : List ℕ) (x : ℕ) (last : List ℕ) → TellsPlan bytes k before r after → TellsPlan bytes k before x last → (x ≡ r) × (last ≡ after)
+plans-one bytes k before r after x last = go (isBlock bytes)
+  where
+    go : (w : Bool) → TellsPlanBy bytes k before r after w → TellsPlanBy bytes k before x last w → (x ≡ r) × (last ≡ after)
+    go true p q = both-15 ((x ≡ r) × (last ≡ after)) (λ w f g. (g .0 ∙ sym (f .0), puts-one (f .1) (g .1) .0)) p q
     go false p q = (q .0 ∙ sym (p .0), q .1 ∙ sym (p .1))
 
 pub judges-one : (bytes : List ℕ) (r x : ℕ) → TellsWhole bytes r → TellsWhole bytes x → x ≡ r

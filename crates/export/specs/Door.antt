@@ -2,19 +2,20 @@
 use Prim.Native.Nat.{ℕ, suc, _+_, _*_}
 use mathlib.Core.Path.{_≡_}
 use mathlib.Core.Bool.{Bool, true, false}
-use mathlib.Core.List.{List, [], _∷_}
+use mathlib.Core.List.{List, [], _∷_, _++_}
 use lib.Dec.{eqb}
 use lib.IntN.{pos, negsuc}
 use lib.ListN.{length}
-use Rattle.laws.specs.Words.{Decides, digit, written}
+use Rattle.laws.specs.Words.{pick, Decides, digit, written, Puts}
 use Rattle.rules.specs.Numbers.{NotWhole, numberOf, valueOf, given, Verdict, Passed, Failed, firstOf}
-use Rattle.rules.specs.Calls.{Call, Margin, None, Ticks, Answer, Accepted, Refused}
+use Rattle.rules.specs.Levels.{Point}
+use Rattle.rules.specs.Calls.{Call, Margin, None, Ticks, Answer, Accepted, Refused, Planned, plannedOf, plannedBy}
 use Rattle.rules.specs.Lines.{taskIn}
 use Rattle.rules.specs.Records.{tasksRead, runnerTests}
 use Rattle.kernel.specs.declared.Called.{Called}
 use Rattle.kernel.specs.declared.start.Started.{Started}
 use Rattle.kernel.specs.declared.asks.Listed.{Listed}
-use Rattle.kernel.specs.Block.{Whole}
+use Rattle.kernel.specs.Block.{viewOf, Whole, Test15}
 use Rattle.kernel.specs.Answers.{answerIn}
 use Rattle.kernel.specs.Calls as Calls
 use Rattle.kernel.specs.Start as Start
@@ -75,7 +76,7 @@ TellsStartBy s reading bytes r after false = (r ≡ numberOf NotWhole) × (after
 abbrev pub TellsStart : List ℕ → ℕ → List ℕ → ℕ → List ℕ → Type 0
 TellsStart s reading bytes r after = TellsStartBy s reading bytes r after (isBlock bytes)
 
--- ---- the listing, and whether a block is whole
+-- ---- the listing
 
 -- the number waiting, or 256 times the number of the refusal
 abbrev pub numberBy : ℕ → Verdict → ℕ
@@ -89,6 +90,36 @@ TellsListingBy bytes before r after false = (r ≡ 256 * numberOf NotWhole) × (
 
 abbrev pub TellsListing : List ℕ → List ℕ → ℕ → List ℕ → Type 0
 TellsListing bytes before r after = TellsListingBy bytes before r after (isBlock bytes)
+
+-- ---- a plan
+
+-- of a point the ticks after the release, and the level
+abbrev pub pointNumbers : Point → List ℕ
+pointNumbers p = p .at ∷ p .level ∷ []
+
+-- of each point, one behind the other
+unfoldable pub planNumbers : List Point → List ℕ
+planNumbers [] = []
+planNumbers (p ∷ ps) = pointNumbers p ++ planNumbers ps
+
+-- they are put into an array from its front, and its other places stay
+abbrev pub PlanPut : List ℕ → List Point → List ℕ → Type 0
+PlanPut before points after = Puts before 0 (planNumbers points) (2 * length points) after
+
+-- the number of points, or 256 times the number of the refusal; a refused one has no points, so nothing is written
+abbrev pub PlansBy : Planned → List ℕ → ℕ → List ℕ → Type 0
+PlansBy x before r after = (r ≡ numberBy (length (x .points)) (x .verdict)) × PlanPut before (x .points) after
+
+abbrev pub TellsPlanBy : List ℕ → ℕ → List ℕ → ℕ → List ℕ → Bool → Type 0
+TellsPlanBy bytes k before r after true =
+    Test15 (blockIn bytes) (λ whole. PlansBy (pick whole (plannedOf (viewOf (blockIn bytes)) k) (plannedBy (viewOf (blockIn bytes)) k (Failed NotWhole))) before r after)
+TellsPlanBy bytes k before r after false = (r ≡ 256 * numberOf NotWhole) × (after ≡ before)
+
+-- the plan of a task, asked of the block that the bytes say
+abbrev pub TellsPlan : List ℕ → ℕ → List ℕ → ℕ → List ℕ → Type 0
+TellsPlan bytes k before r after = TellsPlanBy bytes k before r after (isBlock bytes)
+
+-- ---- whether a block is whole
 
 -- 1 where the bytes are those of a whole block
 abbrev pub TellsWhole : List ℕ → ℕ → Type 0

@@ -5,22 +5,29 @@
 //     meter_start        a block from the task records of a stream
 //     meter_release      meter_done      meter_clock          a call on the block
 //     meter_listing      the waiting jobs
+//     meter_plan         when a task's job is promoted, and to which level
 //     meter_whole        whether the block is whole
 //
 // A refusal writes nothing: not one byte of the block, the answer or the buffer.
 ghost use mathlib.Core.Path.{_≡_};
+ghost use Prim.Native.Nat.{_≤_};
+ghost use Rattle.rules.specs.Table.{most};
 ghost use Rattle.rules.specs.Calls.{Release, Done, Clock};
 ghost use Rattle.kernel.specs.Answers.{marginIn};
+ghost use Rattle.lines.specs.Shown.{pointsIn};
 ghost use Rattle.run.specs.Run.{Runs};
-ghost use Rattle.export.specs.Door.{kindOf, ticksOf, BlockSized, Answers, TellsStart, TellsListing, Tells, TellsWhole};
+ghost use Rattle.export.specs.Door.{kindOf, ticksOf, BlockSized, Answers, TellsStart, TellsListing, PlanPut, TellsPlan, Tells, TellsWhole};
 use image::BLOCK_BYTES;
 use image::load;
 use image::save;
 use kernel::Answer;
 use kernel::Called;
+use kernel::MOST;
 use kernel::Margin;
+use kernel::Plan;
 use kernel::TaskNo;
 use kernel::Verdict;
+use kernel::asks::Asked;
 use kernel::asks::Listed;
 use kernel::start::start;
 use run::run;
@@ -167,6 +174,37 @@ pub extern "C" fn meter_listing(block: &[u8], buffer: &mut [u8]) -> usize
     let listed = load(block).listing(buffer);
     match listed {
         Listed::Waiting(n) => n,
+        other => 256 * other.number() as usize,
+    }
+}
+
+// The points of a stored plan, from the front of the array on.
+fn put_plan(plan: Plan, points: &mut [u32; 2 * MOST])
+    requires { ⌜ plan .count ≤ most ⌝ }
+    ensures { λ _. ⌜ PlanPut (now (points .entry)) (pointsIn plan) (now (points .exit)) ⌝ }
+{
+    for i in 0..plan.count {
+        let point = plan.points[i];
+        let level = point.level;
+        points[2 * i] = point.at;
+        points[2 * i + 1] = level.0 as u32;
+    }
+}
+
+// The points of a task's plan: of each the ticks after the release, and the level. Their number; or 256 times the number of the refusal.
+#[no_mangle]
+pub extern "C" fn meter_plan(block: &[u8], task: u8, points: &mut [u32; 2 * MOST]) -> usize
+    ensures { λ r. ⌜ TellsPlan (now (block .entry)) task (now (points .entry)) r (now (points .exit)) ⌝ }
+{
+    if block.len() != BLOCK_BYTES {
+        return 256 * refusals::NOT_WHOLE as usize;
+    }
+    let planned = load(block).plan(TaskNo(task));
+    let plan = planned.plan;
+    put_plan(plan, points);
+    let answer = planned.answer;
+    match answer {
+        Asked::Given => plan.count,
         other => 256 * other.number() as usize,
     }
 }

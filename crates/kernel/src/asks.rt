@@ -6,7 +6,7 @@ ghost use Rattle.rules.specs.Calls.{plannedOf};
 ghost use Rattle.rules.specs.Listing.{listedOf};
 ghost use Rattle.levels.specs.Copy.{held};
 ghost use Rattle.kernel.specs.Block.{viewOf, Whole};
-ghost use Rattle.kernel.specs.Asks.{listedIn, GivesListing, PlansAs, GivesPlan};
+ghost use Rattle.kernel.specs.Asks.{listedIn, GivesListing, askedIn, PlansAs, GivesPlan};
 use super::Block;
 use jobs::in_table;
 use levels::Plan;
@@ -41,6 +41,19 @@ pub enum Asked {
     Given,
     NotWhole,
     NoSuchTask,
+}
+
+impl Asked {
+    // "No.", and 0 where there is a plan.
+    pub fn number(self) -> u8
+        ensures { λ r. ⌜ r ≡ numberIn (askedIn self) ⌝ }
+    {
+        match self {
+            Asked::Given => 0,
+            Asked::NoSuchTask => refusals::NO_SUCH_TASK,
+            Asked::NotWhole => refusals::NOT_WHOLE,
+        }
+    }
 }
 
 // The answer, and the plan; on a refusal it has no points.

@@ -3,6 +3,9 @@ use Rattle.export.proofs.Doors.{lists-none, lists-waiting, lists-refuse
 use Rattle.export.proofs.meter_listing.Statement.{statement}
 use Rattle.export.proofs.meter_listing.Tie as tie
 
+cast-result : tie.Need-cast-result
+cast-result c = search needs
+
 mul-result : tie.Need-mul-result
 mul-result c = search needs
 
@@ -21,8 +24,8 @@ enum-known-listed c = search needs
 number-requires : tie.Need-number-requires
 number-requires c κs = search needs
 
-cast-result : tie.Need-cast-result
-cast-result c = search needs
+cast-result-2 : tie.Need-cast-result-2
+cast-result-2 c = search needs
 
 mul-result-2 : tie.Need-mul-result-2
 mul-result-2 c = search needs
@@ -47,13 +50,14 @@ pub meter-listing-spec : {M : Type 1} → statement M
 meter-listing-spec =
     tie.close
     (tie.spec
+    cast-result
     mul-result
     returns
     load-requires
     listing-requires
     enum-known-listed
     number-requires
-    cast-result
+    cast-result-2
     mul-result-2
     same-length
     returns-2

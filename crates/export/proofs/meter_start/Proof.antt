@@ -21,6 +21,9 @@ small c =
     let tested = c .before .before .before in let s = tested .before .before .before .before in
     omega (arith, c .offset .ensures, offset-small (s .args .stream .now) (tested .stream-test .result) (tested .stream-test .ensures))
 
+cast-result : tie.Need-cast-result
+cast-result c = search needs
+
 returns : tie.Need-returns
 returns c = let s = c .before .before .before in begins-none (s .args .stream .now) (s .args .reading) (s .args .block .now) (c .if1 .taken)
 
@@ -55,14 +58,14 @@ returns-2 c =
 number-requires : tie.Need-number-requires
 number-requires c κs = search needs
 
-cast-result : tie.Need-cast-result
-cast-result c = search needs
+cast-result-2 : tie.Need-cast-result-2
+cast-result-2 c = search needs
 
 task-requires : tie.Need-task-requires
 task-requires c κs = search needs
 
-cast-result-2 : tie.Need-cast-result-2
-cast-result-2 c = search needs
+cast-result-3 : tie.Need-cast-result-3
+cast-result-3 c = search needs
 
 mul-result : tie.Need-mul-result
 mul-result c = search needs
@@ -81,8 +84,8 @@ returns-3 c =
 number-requires-2 : tie.Need-number-requires-2
 number-requires-2 c κs = search needs
 
-cast-result-3 : tie.Need-cast-result-3
-cast-result-3 c = search needs
+cast-result-4 : tie.Need-cast-result-4
+cast-result-4 c = search needs
 
 offset-requires : tie.Need-offset-requires
 offset-requires c κs = search needs
@@ -103,6 +106,7 @@ pub meter-start-spec : {M : Type 1} → statement M
 meter-start-spec =
     tie.close
     (tie.spec
+    cast-result
     returns
     stream-test-requires
     enum-told
@@ -113,14 +117,14 @@ meter-start-spec =
     same-length
     returns-2
     number-requires
-    cast-result
-    task-requires
     cast-result-2
+    task-requires
+    cast-result-3
     mul-result
     add-result
     returns-3
     number-requires-2
-    cast-result-3
+    cast-result-4
     offset-requires
     mul-result-2
     add-result-2

@@ -36,7 +36,7 @@ same-length : tie.Need-same-length
 same-length c = puts-length (returns c)
 
 returns-2 : tie.Need-returns-2
-returns-2 c = rw (c .before .before .before .before .before .last .given .1) (puts-to (omega arith) (puts-then (puts-byte _ _ _) (c .before .before .put-number2 .ensures)))
+returns-2 c = rw (c .before .before .before .before .before .last .given .1) (puts-to (omega arith) (puts-then (puts-byte _ _ _) (c .before .before .put-little2 .ensures)))
 
 same-length-2 : tie.Need-same-length-2
 same-length-2 c = puts-length (returns-2 c)

@@ -22,7 +22,7 @@ same-length c = search needs
 returns : tie.Need-returns
 returns c =
     let first = c .before .before .before .before .before in
-    let all = puts-behind (first .before .before .put-little .ensures) (c .before .before .put-number2 .ensures) (omega arith) in
+    let all = puts-behind (first .before .before .put-little .ensures) (c .before .before .put-little2 .ensures) (omega arith) in
     puts-to (omega arith) all
 
 pub put-now-spec : {M : Type 1} → statement M

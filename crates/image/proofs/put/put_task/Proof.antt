@@ -35,8 +35,8 @@ returns : tie.Need-returns
 returns c =
     let second = c .before .before .before .before .before in
     let first = second .before .before .before .before .before in
-    let two = puts-behind (first .before .before .put-little .ensures) (second .before .before .put-number2 .ensures) (omega arith) in
-    let all = puts-behind two (c .before .before .put-number3 .ensures) (omega arith) in
+    let two = puts-behind (first .before .before .put-little .ensures) (second .before .before .put-little2 .ensures) (omega arith) in
+    let all = puts-behind two (c .before .before .put-little3 .ensures) (omega arith) in
     puts-to (omega arith) all
 
 pub put-task-spec : {M : Type 1} → statement M
