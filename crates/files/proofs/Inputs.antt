@@ -5,7 +5,7 @@ use Prim.Native.Nat.{ℕ}
 use Rattle.io.specs.Counts.{Counts}
 use Rattle.files.specs.declared.Input.{Input}
 use Rattle.files.specs.declared.Input.the-variants.{Bytes}
-use Rattle.files.specs.Answers.{ReadInto}
+use Rattle.files.specs.Ends.{ReadInto}
 
 -- what `&buffer[..n]` asks
 pub bytes-read : (buffer : List ℕ) {r : Input} {n : ℕ} → r ≡ Bytes n → ReadInto r buffer → Counts n buffer

@@ -1,6 +1,6 @@
 -- The first letter of an output tells how its run ended. Assumes nothing.
 use mathlib.Core.Path.{_≡_, refl, sym, _∙_}
-use mathlib.Core.Logic.{inr}
+use mathlib.Core.Logic.{inr, ⊎-elim}
 use mathlib.Core.List.{List}
 use Prim.Native.Nat.{ℕ, _≤_}
 use native.Mathlib.Omega.{arith}
@@ -13,8 +13,9 @@ use Rattle.rules.specs.Records.{runnerTests}
 use Rattle.rules.specs.Runner.{letterOf, outputOf}
 use Rattle.rules.proofs.Runner.{output-some, output-letter}
 use Rattle.run.specs.Run.{room, Runs}
-use Rattle.files.specs.declared.Ended.the-variants.{Accepted, Refused}
-use Rattle.files.specs.Answers.{endedBy, EndsAs}
+use Rattle.files.specs.declared.Ended.{Ended}
+use Rattle.files.specs.declared.Ended.the-variants.{Accepted, Refused, NotWritten}
+use Rattle.files.specs.Ends.{endedBy, EndsAs}
 
 -- 88 is `X`
 refused-by : (v : Verdict) → letterOf v ≡ 88 → Refused ≡ endedBy v
@@ -38,3 +39,7 @@ module _ (s before : List ℕ) (size : ℕ) (out : List ℕ) (enough : room ≤ 
 
   pub ends-accepted : (getD out 0 0 ≡ 88 → ⊥) → EndsAs s Accepted
   ends-accepted h = inr (accepted-by (firstOf (runnerTests s)) (λ e. h (first-letter ∙ e)))
+
+-- two ends of a run whose output was written are the same
+pub ends-one : (s : List ℕ) {r q : Ended} → EndsAs s r → EndsAs s q → (r ≡ NotWritten → ⊥) → (q ≡ NotWritten → ⊥) → q ≡ r
+ends-one s p t h g = ⊎-elim (λ n. absurd (h n)) (λ e. ⊎-elim (λ n. absurd (g n)) (λ f. f ∙ sym e) t) p

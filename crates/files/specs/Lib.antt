@@ -1,2 +1,2 @@
 -- What the contracts of `files` cite beside the rules.
-pub mod Answers
+pub mod Ends

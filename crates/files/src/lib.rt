@@ -1,6 +1,6 @@
 // Streams from a descriptor and outputs to one. What is read and written is the system's, and no contract can say it; but a read or a
 // write that fails is told.
-ghost use Rattle.files.specs.Answers.{ReadInto, EndsAs};
+ghost use Rattle.files.specs.Ends.{ReadInto, EndsAs};
 
 // How many bytes were read, or that a read failed.
 pub enum Input {

@@ -1,4 +1,4 @@
--- What reading and reporting answer. Which bytes are read, and whether writing succeeds, is the system's.
+-- What is read, and how a run ended. Which bytes are read, and whether a write succeeds, is the system's.
 use Prim.Native.Nat.{ℕ}
 use mathlib.Core.Path.{_≡_}
 use mathlib.Core.Logic.{_⊎_}
@@ -11,7 +11,7 @@ use Rattle.files.specs.declared.Input.the-variants as Input
 use Rattle.files.specs.declared.Ended.{Ended}
 use Rattle.files.specs.declared.Ended.the-variants.{Accepted, Refused, NotWritten}
 
--- the bytes that were read stand at the front of the buffer, and there are no more than it has places
+-- no more bytes were read than the buffer has places; where a read failed, nothing is known
 abbrev pub ReadInto : Input → List ℕ → Type 0
 ReadInto (Input.Bytes n) buffer = Counts n buffer
 ReadInto Input.Failed buffer = Unit {0}
