@@ -27,6 +27,27 @@ enum {
     METER_NUMBERS
 };
 
+/* refusals */
+/* The numbers given back. */
+enum {
+    METER_TABLE_SIZE = 1,          /* table empty or above 32 tasks */
+    METER_OUT_OF_RANGE = 2,        /* C, D or T out of range */
+    METER_OUT_OF_ORDER = 3,        /* not C <= D <= T */
+    METER_OVERLOAD = 4,            /* load above 1000 */
+    METER_COUNTER_WENT_BACK = 5,   /* counter went back */
+    METER_CLOCK_FULL = 6,          /* clock would pass 2^40 */
+    METER_NO_SUCH_TASK = 7,        /* task 0 or above the table's count */
+    METER_TASK_ACTIVE = 8,         /* release: the task is active */
+    METER_TOO_SOON = 9,            /* release: sooner than T after its last */
+    METER_NOT_RUNNING = 10,        /* done: the task is not running */
+    METER_BUFFER_TOO_SHORT = 11,   /* listing: buffer too short */
+    METER_UNREADABLE = 12,         /* unknown mark, or a record cut off */
+    METER_TASK_BEHIND_EVENT = 13,  /* task record behind an event */
+    METER_INPUT_TOO_LONG = 14,     /* input above 65,536 bytes */
+    METER_NOT_WHOLE = 15           /* the block is not whole */
+};
+/* end of refusals */
+
 /* The runner's whole output for a stream; its length. 0, and nothing is written, where there are less than METER_ROOM bytes. */
 size_t meter_run(const uint8_t *stream, size_t length, uint8_t *out, size_t room);
 

@@ -86,7 +86,7 @@ pub extern "C" fn bench_calls(block: &[u8], kind: u8, reading: u32, task: u8, ti
     sum
 }
 
-// The inner form, without it.
+// The inner form, without the whole-test.
 #[no_mangle]
 pub extern "C" fn bench_inner(block: &[u8], kind: u8, reading: u32, task: u8, times: u32) -> u64
     ensures { λ r. ⌜ Sums (now (block .entry)) (callBy kind reading task) times r ⌝ }

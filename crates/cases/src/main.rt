@@ -1,5 +1,8 @@
 // Runs each case of data/ in the order of the arguments, and writes its name and the runner's lines. What is expected comes from a model of
 // its own (tools/cases.py); it is compared with the file stdout.
+use files::Ended;
+use files::Input;
+
 fn main() {
     let count = os::arg_count();
     let mut i: usize = 1;
@@ -25,14 +28,20 @@ fn named(i: usize) {
         os::fail(&name[..length]);
         return;
     }
-    case(file);
+    case(&name[..length], file);
     libc::close(file);
 }
 
-fn case(file: i32) {
+// Its lines, from the file that holds its stream.
+fn case(name: &[u8], file: i32) {
     let mut stream = run::input_room();
-    let length = io::read_full(file, &mut stream);
-    let mut out = run::output_room();
-    let size = run::run(&stream[..length], &mut out);
-    io::write_all(1, &out[..size]);
+    let input = files::read_all(file, &mut stream);
+    let Input::Bytes(length) = input else {
+        os::fail(name);
+        return;
+    };
+    let ended = files::report(&stream[..length], 1);
+    if let Ended::NotWritten = ended {
+        os::fail(name);
+    }
 }

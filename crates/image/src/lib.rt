@@ -11,8 +11,8 @@
 //     clock              8
 //     last reading       4
 //
-// Numbers are little-endian. save and load take a step for each byte. They are inner forms: who calls them has tested the length, as
-// export does.
+// Numbers are little-endian. save and load take a step for each byte. They are inner forms: their callers, as export, have tested the
+// length.
 ghost use mathlib.Core.Path.{_≡_};
 ghost use Prim.Native.Nat.{_≤_};
 ghost use lib.ListN.{length};
@@ -33,7 +33,7 @@ use take::tasks_at;
 mod put; // parts of a block into bytes
 mod take; // parts of a block out of bytes
 
-// Where its parts begin; the tasks, at its front.
+// The places where its parts begin; the tasks stand at its front.
 const JOBS: usize = 8 + 12 * MOST + 4 * MOST;
 
 const READY: usize = JOBS + 10 * PLACES;
@@ -43,7 +43,7 @@ const NOW: usize = READY + 2 + 3 * PLACES + 4;
 // How many bytes a block has.
 pub const BLOCK_BYTES: usize = NOW + 12;
 
-// The block into the first BLOCK_BYTES of the buffer; those behind stay.
+// Puts the block into the first BLOCK_BYTES of the buffer; the bytes behind them stay.
 pub fn save(block: Block, bytes: &mut [u8])
     requires { ⌜ size ≤ length (now bytes) ⌝ }
     ensures { λ _. ⌜ now (bytes .exit) ≡ written (bytesOf block) (now (bytes .entry)) ⌝ }

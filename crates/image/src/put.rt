@@ -70,7 +70,7 @@ pub fn put_tasks(bytes: &mut [u8], at: usize, tasks: Tasks)
     put_numbers(bytes, at + (8 + 12 * MOST), rising);
 }
 
-// Whether there was a release, and its time.
+// A byte that tells whether there was a release, and its time.
 fn put_last(bytes: &mut [u8], at: usize, last: Last)
     requires { ⌜ at + 9 ≤ length (now bytes) ⌝ }
     ensures { λ _. ⌜ Puts (now (bytes .entry)) at (lastBytes last) (at + 9) (now (bytes .exit)) ⌝ }
@@ -106,7 +106,7 @@ pub fn put_jobs(bytes: &mut [u8], at: usize, jobs: [Job; PLACES])
     }
 }
 
-// Whether there is one, and who.
+// A byte that tells whether a job runs, and its task.
 fn put_who(bytes: &mut [u8], at: usize, who: Who)
     requires { ⌜ at + 2 ≤ length (now bytes) ⌝ }
     ensures { λ _. ⌜ Puts (now (bytes .entry)) at (whoBytes who) (at + 2) (now (bytes .exit)) ⌝ }

@@ -1,4 +1,4 @@
-// Parts of a block out of bytes, whatever they are.
+// Takes the parts of a block out of bytes, which may be any.
 ghost use Prim.Native.Nat.{_+_, _*_, _<_, _≤_};
 ghost use mathlib.Core.Path.{_≡_};
 ghost use lib.ListN.{length};

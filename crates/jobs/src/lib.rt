@@ -1,7 +1,7 @@
 // The jobs: for each task whether its job is active and when the task was last released; and from these, with the table and its rising
 // copy, deadlines and levels. A task's number is its place; place 0, and those past the table's count, are free.
 //
-// They are inner forms: what they require of the table, the copy and the release times is so of a whole block.
+// These are inner forms: what they require of the table, the copy and the release times holds of a whole block.
 ghost use mathlib.Core.Path.{_≡_};
 ghost use mathlib.Core.Bool.{_&&_};
 ghost use Prim.Native.Nat.{_≤_};
@@ -37,7 +37,7 @@ pub struct Tasks {
     pub rising: [u32; MOST],
 }
 
-// Whether a table of so many tasks has this one.
+// Whether a table with `count` tasks has this task.
 pub fn in_table(count: usize, task: TaskNo) -> bool
     ensures { λ r. ⌜ r ≡ (leb 1 (task .0) && leb (task .0) count) ⌝ }
 {
@@ -74,7 +74,7 @@ pub fn time_left(table: Table, jobs: [Job; PLACES], time: u64, task: TaskNo) -> 
     remaining(deadline(table, jobs, task), time)
 }
 
-// The level at a time of the task's job.
+// The level of the task's job at this time.
 pub fn level_of(tasks: Tasks, jobs: [Job; PLACES], time: u64, task: TaskNo) -> Level
     requires { ⌜ Levelled tasks jobs time (task .0) ⌝ }
     ensures { λ r. ⌜ r .0 ≡ levelsAt tasks jobs time (task .0) ⌝ }

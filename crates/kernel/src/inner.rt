@@ -28,7 +28,7 @@ impl Block {
         }
     }
 
-    // 5, 6, 7, 8, 9, and the commit. (These three require a whole block, which the whole-test has told; who calls them otherwise shows it.)
+    // 5, 6, 7, 8, 9, and the commit. (These three require a whole block: the public calls have tested it, and any other caller proves it.)
     pub fn release_whole(self, reading: u32, task: TaskNo) -> Called
         requires { ⌜ Whole self ⌝ }
         ensures { λ r. ⌜ Does self (Release reading (task .0)) r ⌝ }

@@ -5,7 +5,7 @@
 //     E count answer running moves waiting margin
 //     S total bound
 //
-// Each function puts a line into a lent buffer from a place on, and gives back the place behind it. They are inner forms: each asks for
+// Each function puts a line into a lent buffer from a place on, and gives back the place behind it. These are inner forms: each asks for
 // room for the longest line that it can put.
 ghost use Prim.Native.Nat.{_+_, _≤_};
 ghost use lib.ListN.{length};

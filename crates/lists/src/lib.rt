@@ -9,16 +9,17 @@
 //
 //        map    ..00101            bit 0 is level 1; set where the list holds a job
 //
-// Place 0 of each array is nobody's and holds 0, so a number is a place. Every place is told by the lists: so the lists determine the
-// arrays and the map, and these the lists (proofs/Determined).
+// Place 0 of each array is nobody's and holds 0, so a number is a place. The lists say what every place holds: they determine the arrays
+// and the map, and the arrays and the map determine them (proofs/Determined).
 //
 //      empty, push_front, push_back, pop_front, move_front, front, lowest, lowest_from      O(1)
 //      length_of, list_into                   a step for each job of the list
 //      waiting, list_all                      a step for each level and each job
 //
 // Contracts speak of lists of numbers: whatever lists `ls` are stored, they say what is answered and which lists are stored afterwards.
-// The fields are private, so nothing above this crate names a link or a bit. All but empty, stored and of are inner forms: that the arrays
-// store lists, which they require, is so at first (empty), stays so, and is told of anything (crate stored).
+// The fields are private, so nothing above this crate names a link or a bit. All functions but empty, stored and of are inner forms: they
+// require that the arrays store lists. `empty` makes such arrays, each operation keeps them so, and crate stored tests arrays that may
+// hold anything.
 ghost use mathlib.Core.Path.{_≡_};
 ghost use mathlib.Core.List.{List, []};
 ghost use Prim.Native.Nat.{ℕ, suc, _-_};
@@ -67,7 +68,7 @@ impl Who {
     }
 }
 
-// A level, where there is one.
+// The level of an occupied list, where there is one.
 pub enum Occupied {
     Nothing,
     At(Level),
@@ -95,7 +96,7 @@ fn without_bit(map: u32, level: Level) -> u32
 }
 
 impl Lists {
-    // As they are stored.
+    // The arrays and the map, to be kept elsewhere.
     pub fn stored(self) -> Stored
         ensures { λ r. ⌜ r ≡ storedOf self ⌝ }
     {
@@ -110,7 +111,7 @@ impl Lists {
         }
     }
 
-    // Whatever was stored: crate stored tells whether it is lists.
+    // The struct again, from arrays and a map that may hold anything; crate stored tells whether they store lists.
     pub fn of(stored: Stored) -> Lists
         ensures { λ r. ⌜ r ≡ listsOf stored ⌝ }
     {
@@ -219,7 +220,7 @@ impl Lists {
         }
     }
 
-    // Who is ahead of all in the list of the level.
+    // The front job of the list of the level, or nobody.
     pub fn front(self, level: Level) -> Who
         requires { ⌜ HoldsAt self (level .0) ⌝ }
         ensures { λ r. ⌜ ((ls : ℕ → List ℕ) → Stores self ls → whoIn r ≡ frontOf (ls (level .0))) ⌝ }

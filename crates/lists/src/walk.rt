@@ -1,4 +1,4 @@
-// Along the links: how long a list is, how many wait, and a list, or all, into a lent buffer.
+// Walks along the links: they tell how long a list is and how many jobs wait, and write one list, or all, into a lent buffer.
 ghost use mathlib.Core.Path.{_≡_};
 ghost use mathlib.Core.List.{List};
 ghost use Prim.Native.Nat.{ℕ};

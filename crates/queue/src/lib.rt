@@ -1,6 +1,6 @@
-// Those who run and wait ("The block"): whether they are tasks of the table, each once, all active ones, in the lists of their levels, in
-// order. Inner forms of the test for a whole block: the table, its copy, the clock and the release times have been tested, and the waiting
-// jobs are read from their listing, a byte for the level and one for the task.
+// A part of the whole-test ("The block"): whether the jobs that run and wait are jobs of the table's tasks, each once, all active ones, in
+// the lists of their levels and in order. These are inner forms: the table, its copy, the clock and the release times have been tested
+// before, and the waiting jobs are read from their listing, a byte for the level and one for the task.
 //
 //     runs_whole      where a job runs
 //       in_table        the running one is a task of the table
@@ -83,7 +83,7 @@ fn waits_right(
     right.0 == level.0
 }
 
-// So all that wait.
+// Whether that is so of each job that waits.
 fn all_wait(
     tasks: Tasks,
     jobs: [Job; PLACES],
@@ -145,7 +145,7 @@ fn in_order(
     true
 }
 
-// Who runs or waits.
+// Marks the task whose job runs, and those whose jobs wait.
 fn marks(first: TaskNo, bytes: [u8; LISTING_BYTES], n: usize) -> [bool; PLACES]
     requires { ⌜ ((i : ℕ) → i ≤ n → inRow (first .0) bytes i ≤ most) × Few n ⌝ }
     ensures { λ r. ⌜ r ≡ marked none (first .0 ∷ tasksIn bytes n) ⌝ }

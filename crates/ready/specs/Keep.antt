@@ -35,7 +35,7 @@ pub record Relevels (new : ℕ → ℕ) (r : Ready) (after : Releveled) : Type 0
   pub keeps : Becomes r (λ x. record { running = x .running; lists = promoted new (most - 1) 2 (x .lists) }) (after .ready)
   pub moves : (x : Rules.Ready) → Keeps r x → after .moves ≡ leavingBy new (most - 1) 2 (x .lists)
 
--- something is kept
+-- there is something that is kept
 pub record Keeping (r : Ready) : Type 0 where
   pub ready : Rules.Ready
   pub keeps : Keeps r ready
@@ -50,7 +50,7 @@ pub record MayWait (tasks : Tasks) (jobs : List Job) (time : ℕ) (lists : ℕ �
   pub level : levelsAt tasks jobs time k ≤ most
   pub absent : Absent k lists
 
--- so does the job of task k, which is released, and the running one
+-- the job of task k, which is released, may wait, and so may the running one
 pub record Enterable (r : Ready) (tasks : Tasks) (jobs : List Job) (time k : ℕ) : Type 0 where
   pub ready : Rules.Ready
   pub keeps : Keeps r ready

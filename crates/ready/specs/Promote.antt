@@ -55,7 +55,7 @@ pub record DrainedTo (new : ℕ → ℕ) (l : ℕ) (ls : ℕ → List ℕ) (r : 
   pub stores : Stores (r .lists) (drained new l ls (ls l))
   pub moves : r .moves ≡ leaving new l (ls l)
 
--- all lists from level 2 up have been
+-- all lists from level 2 up have been drained, and so many jobs have left them
 pub record PromotedTo (new : ℕ → ℕ) (ls : ℕ → List ℕ) (r : Promoted) : Type 0 where
   pub stores : Stores (r .lists) (promoted new (most - 1) 2 ls)
   pub moves : r .moves ≡ leavingBy new (most - 1) 2 ls

@@ -10,7 +10,7 @@
 //     promoted      3            9 -> 7 -> 2         4            5               5 stays, so nobody behind it moves
 //
 // relevel takes a step for each occupied list and each job that moves; enter and leave take no walk along a list. Contracts speak of the
-// rules' lists: whatever is kept at first, they say what is kept afterwards. These are inner forms: what they require is so of a whole
+// rules' lists: whatever is kept at first, they say what is kept afterwards. These are inner forms: what they require holds of a whole
 // block.
 ghost use mathlib.Core.List.{List};
 ghost use Prim.Native.Nat.{ℕ};
@@ -73,7 +73,7 @@ fn meet(lists: Lists, task: TaskNo, level: Level, other: TaskNo, held: Level) ->
 }
 
 impl Ready {
-    // "puts every waiting job in the list of its new level": at this time.
+    // "puts every waiting job in the list of its new level", its level at this time.
     pub fn relevel(self, tasks: Tasks, jobs: [Job; PLACES], time: u64) -> Releveled
         requires { ⌜ Promotable tasks jobs time (self .lists) ⌝ }
         ensures { λ r. ⌜ Relevels (levelsAt tasks jobs time) self r ⌝ }

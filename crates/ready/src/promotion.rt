@@ -28,13 +28,13 @@ pub struct Promoted {
     pub moves: u32,
 }
 
-// What becomes of the front job of a list: it stays, or there is none; or it goes to this level.
+// What becomes of the front job of a list: it goes to this level, or nothing goes, since the job stays or the list is empty.
 enum Next {
     Stays,
     Goes(Level),
 }
 
-// Whether the job of a task that waits at this level has left it, and for which.
+// Whether the job of this task, which waits at this level, is to leave it, and for which level.
 fn next_of(tasks: Tasks, jobs: [Job; PLACES], time: u64, level: Level, task: TaskNo) -> Next
     requires { ⌜ Leaves tasks jobs time (level .0) (task .0) ⌝ }
     ensures { λ r. ⌜ r ≡ goesTo (level .0) (levelsAt tasks jobs time (task .0)) ⌝ }
@@ -47,7 +47,7 @@ fn next_of(tasks: Tasks, jobs: [Job; PLACES], time: u64, level: Level, task: Tas
     Next::Goes(level_in(table.count, &tasks.rising, left))
 }
 
-// The same of the front job of the level's list.
+// The same for the front job of the level's list.
 fn front_next(tasks: Tasks, jobs: [Job; PLACES], time: u64, lists: Lists, level: Level) -> Next
     requires { ⌜ Drainable tasks jobs time lists (level .0) ⌝ }
     ensures { λ r. ⌜ ((ls : ℕ → List ℕ) → Stores lists ls → r ≡ frontGoes (levelsAt tasks jobs time) (level .0) (ls (level .0))) ⌝ }

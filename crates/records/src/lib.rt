@@ -111,7 +111,7 @@ fn wide(byte: u8) -> u32
     byte as u32
 }
 
-// "Numbers are little-endian": that of the four bytes from a place on, which are there. (An inner form: who calls it has tested that.)
+// "Numbers are little-endian": the number that the four bytes from a place on say. (An inner form: its callers have tested that there are four.)
 pub fn word_at(stream: &[u8], at: usize) -> u32
     requires { ⌜ at + 4 ≤ length (now stream) ⌝ }
     ensures { λ r. ⌜ r ≡ word (now (stream .entry)) at ⌝ }

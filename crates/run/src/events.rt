@@ -103,7 +103,7 @@ fn shown(count: u64, called: Called) -> Shown
     }
 }
 
-// Of an accepted release "the released task's first level less one".
+// What an event adds to the bound of demand 3: an accepted release "the released task's first level less one", any other nothing.
 fn bound_by(tasks: Tasks, event: Event, answer: Answer) -> u64
     requires { ⌜ Boundable tasks (callIn event) (answerIn answer) ⌝ }
     ensures { λ r. ⌜ (r ≡ boundBy (tableOf (tasks .table)) (callIn event) (answerIn answer)) × (r ≤ 256) ⌝ }

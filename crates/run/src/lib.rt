@@ -8,7 +8,7 @@
 //           sum_line         S
 //
 // Time: the stream is read three times, for its tests, its table and its events; an event takes what its call takes, with the
-// whole-test, and what counting those who wait takes.
+// whole-test, and what counting the waiting jobs takes.
 ghost use mathlib.Core.Path.{_≡_};
 ghost use Prim.Native.Nat.{suc, _≤_};
 ghost use lib.ListN.{length, replicate};
@@ -49,7 +49,7 @@ pub fn run(stream: &[u8], out: &mut [u8]) -> usize
     refusal_line(out, 0, tested.number() as u64, tested.offset() as u64)
 }
 
-// Of a stream that is readable.
+// The output for a readable stream: its table is tested, and the block starts.
 fn report(stream: &[u8], out: &mut [u8]) -> usize
     requires { ⌜ (streamOf (now stream) ≡ Passed) × (room ≤ length (now out)) ⌝ }
     ensures { λ r. ⌜ Puts (now (out .entry)) 0 (outputOf (now (stream .entry))) r (now (out .exit)) × (r ≤ room) ⌝ }
@@ -64,7 +64,7 @@ fn report(stream: &[u8], out: &mut [u8]) -> usize
     refusal_line(out, 0, verdict.number() as u64, verdict.task() as u64)
 }
 
-// Of a readable stream whose table is sound; the block is as it started.
+// The lines of a readable stream whose table is sound; the block is as it started.
 fn lines(stream: &[u8], block: Block, out: &mut [u8]) -> usize
     requires { ⌜ Started (now stream) block × (room ≤ length (now out)) ⌝ }
     ensures { λ r. ⌜ Puts (now (out .entry)) 0 (outputOf (now (stream .entry))) r (now (out .exit)) × (r ≤ room) ⌝ }

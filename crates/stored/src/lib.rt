@@ -109,7 +109,7 @@ fn go_along(stored: Stored, l: usize, before: [bool; PLACES]) -> Gone
     Gone { ok: true, seen }
 }
 
-// Whether nobody has a link who was not seen.
+// Whether every task that was seen in no list has no link.
 fn unlinked(stored: Stored, seen: [bool; PLACES]) -> bool
     ensures { λ r. ⌜ Decides r (Unlinked (listsOf stored) seen) ⌝ }
 {

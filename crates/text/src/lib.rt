@@ -1,7 +1,7 @@
 // Numbers as text, into a buffer that the caller lends: each function puts its text from a place on, leaves all other bytes as they are,
 // and gives back the place behind it.
 //
-// They are inner forms: each asks for room for the longest text that it can put.
+// These are inner forms: each asks for room for the longest text that it can put.
 ghost use mathlib.Core.Path.{_≡_};
 ghost use mathlib.Core.List.{[], _∷_};
 ghost use Prim.Native.Nat.{_+_, _<_, _≤_};
@@ -23,7 +23,7 @@ pub fn put_byte(buffer: &mut [u8], at: usize, byte: u8) -> usize
     at + 1
 }
 
-// n in decimal, in at most k digits: those above the last, and the last.
+// n in decimal, in at most k digits: first the digits above the last one, then the last.
 fn put_digits(buffer: &mut [u8], at: usize, n: u64, k: usize) -> usize
     requires { ⌜ at + k ≤ length (now buffer) ⌝ }
     ensures { λ r. ⌜ Puts (now (buffer .entry)) at (digits k n) r (now (buffer .exit)) ⌝ }

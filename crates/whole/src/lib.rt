@@ -81,7 +81,7 @@ fn jobs_whole(table: Table, jobs: [Job; PLACES], clock: u64) -> bool
     true
 }
 
-// The same of one job.
+// Whether that is so of one job.
 fn is_dated(job: Job, clock: u64) -> bool
     ensures { λ r. ⌜ r ≡ datedBy (job .active) (lastIn (job .last)) clock ⌝ }
 {

@@ -1,0 +1,2 @@
+-- What the contracts of `files` cite beside the rules.
+pub mod Ends
