@@ -8,7 +8,15 @@
 #include <stddef.h>
 #include <stdint.h>
 
-enum { METER_BYTES = 967, METER_ROOM = 2097152 };
+#ifdef __cplusplus
+extern "C" {
+#endif
+
+enum {
+    METER_BYTES = 967,      /* of a block */
+    METER_ROOM = 2097152,   /* for the runner's longest output */
+    METER_POINTS = 32       /* the most points of a plan; the most tasks of a table */
+};
 
 /* What an accepted call answers. */
 enum {
@@ -54,7 +62,14 @@ uint8_t meter_clock(uint8_t *block, size_t bytes, uint32_t reading, uint64_t ans
 /* The waiting jobs, a byte level and a byte task each. Their number; or 256 times the refusal's number. */
 size_t meter_listing(const uint8_t *block, size_t bytes, uint8_t *buffer, size_t length);
 
+/* A task's plan: of each point the ticks after the release, and the level. The number of points; or 256 times the refusal's number. */
+size_t meter_plan(const uint8_t *block, size_t bytes, uint8_t task, uint32_t points[METER_POINTS][2]);
+
 /* 1 where the block is whole, else 0. */
 uint8_t meter_whole(const uint8_t *block, size_t bytes);
+
+#ifdef __cplusplus
+}
+#endif
 
 #endif

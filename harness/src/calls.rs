@@ -1,14 +1,15 @@
-//! Part two: calls, one by one. Number, answer and listing are the model's; the block is whole and holds what the model holds; a refused
-//! call leaves every byte.
+//! Part two: calls, one by one. Number, answer, listing and plans are the model's; the block is whole and holds what the model holds; a
+//! refused call leaves every byte.
 
 use crate::judge;
-use crate::library::{self, Block, BLOCK_BYTES};
-use crate::model::{table_tests, Call, Kernel, Task};
+use crate::library::{self, Block, Points, BLOCK_BYTES};
+use crate::model::{table_tests, Call, Kernel, Task, MOST};
 use crate::random::Dice;
 use crate::sequences::{sequence, spoilt_table, Sequence};
 use crate::streams::{told, written};
 
 const UNTOUCHED: u8 = 0xa5;
+const NO_POINTS: Points = [[0xa5a5a5a5; 2]; MOST];
 
 /// A buffer that is too short, one that just holds the listing, and one that has room behind it.
 pub fn listing_agrees(block: &Block, kernel: &Kernel) -> Result<(), String> {
@@ -28,6 +29,27 @@ pub fn listing_agrees(block: &Block, kernel: &Kernel) -> Result<(), String> {
         }
     }
     Ok(())
+}
+
+/// A task's plan, or 7; places behind its points stay as they were.
+pub fn plan_agrees(block: &Block, kernel: &Kernel, task: u8) -> Result<(), String> {
+    let mut points = NO_POINTS;
+    let said = library::plan(block, task, &mut points);
+    let want = kernel.plan(task);
+    let mut then = NO_POINTS;
+    for (place, &(at, level)) in then.iter_mut().zip(want.iter().flatten()) {
+        *place = [at, level as u32];
+    }
+    let expected = want.map(|plan| plan.len());
+    if (said, points) != (expected, then) {
+        return Err(format!("the plan of task {task}: the model has {expected:?} {then:?}, the library {said:?} {points:?}"));
+    }
+    Ok(())
+}
+
+/// The plan of each task, and of three numbers that no task has.
+fn plans_agree(block: &Block, kernel: &Kernel) -> Result<(), String> {
+    (0..=kernel.table.len() as u8 + 1).chain([255]).try_for_each(|task| plan_agrees(block, kernel, task))
 }
 
 /// Whether the block is whole and stands for this kernel.
@@ -68,6 +90,11 @@ pub fn fifteen(block: &[u8], calls: &[Call]) -> Result<(), String> {
     let said = library::listing(block, &mut buffer);
     if said != Err(15) || buffer != [UNTOUCHED; 70] {
         return Err(format!("a listing of a block that is not whole: {said:?}"));
+    }
+    let mut points = NO_POINTS;
+    let said = library::plan(block, 1, &mut points);
+    if said != Err(15) || points != NO_POINTS {
+        return Err(format!("a plan of a block that is not whole: {said:?}"));
     }
     if library::whole(block) {
         return Err("meter_whole says 1 of a block that is not whole".into());
@@ -114,11 +141,13 @@ pub fn start_agrees(table: &[Task], reading: u32) -> Result<(Block, Kernel), Str
 fn walk(sequence: &Sequence, reading: u32) -> Result<u64, String> {
     let (mut block, mut kernel) = start_agrees(&sequence.table, reading)?;
     listing_agrees(&block, &kernel)?;
+    plans_agree(&block, &kernel)?;
     let mut accepted = 0;
     for &call in &sequence.calls {
         accepted += call_agrees(&mut block, &mut kernel, call)? as u64;
         listing_agrees(&block, &kernel)?;
     }
+    plans_agree(&block, &kernel)?;
     Ok(accepted)
 }
 
@@ -142,5 +171,8 @@ pub fn check(seed: u64, count: u64) -> Result<String, String> {
         accepted += some;
         calls += all;
     }
-    Ok(format!("{count} sequences: {accepted} calls accepted, {} refused; as many blocks, answers and listings", calls - accepted))
+    Ok(format!(
+        "{count} sequences: {accepted} calls accepted, {} refused; as many blocks, answers and listings; every plan before and after",
+        calls - accepted
+    ))
 }

@@ -1,7 +1,8 @@
-//! Part three: damaged blocks. Every single bit of a whole block is flipped, and some damage more is done at random: each call and the listing
-//! give 15 exactly where the judge says that the bytes are no whole block; elsewhere they answer as the model does, and leave a whole block.
+//! Part three: damaged blocks. Every single bit of a whole block is flipped, and some damage more is done at random: each call, the listing
+//! and a plan give 15 exactly where the judge says that the bytes are no whole block; elsewhere they answer as the model does, and leave a
+//! whole block.
 
-use crate::calls::{call_agrees, fifteen, listing_agrees, start_agrees};
+use crate::calls::{call_agrees, fifteen, listing_agrees, plan_agrees, start_agrees};
 use crate::judge::kernel_of;
 use crate::library::{self, Block, BLOCK_BYTES};
 use crate::model::{Call, Kernel, MOST};
@@ -92,6 +93,7 @@ fn compare(block: &Block, calls: &[Call], counts: &mut Counts) -> Result<(), Str
         return Err("meter_whole says 0 of a whole block".into());
     }
     listing_agrees(block, &kernel)?;
+    plan_agrees(block, &kernel, kernel.table.len() as u8)?;
     for &call in calls {
         counts.accepted += call_agrees(&mut block.clone(), &mut kernel.clone(), call)? as u64;
     }

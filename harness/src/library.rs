@@ -1,12 +1,14 @@
 //! The proved library, target/staticlib/libexport.a: a slice is passed as a pointer and a length, an array as a pointer.
 
-use crate::model::{Answer, Call};
+use crate::model::{Answer, Call, MOST};
 
 /// The bytes of a block.
 pub const BLOCK_BYTES: usize = 967;
 pub type Block = [u8; BLOCK_BYTES];
 /// The running task or 0; the moves; 0 where there is no margin, 1 where it is 0 or more, 2 where it is less; its ticks.
 type Numbers = [u64; 4];
+/// Of each point the ticks after the release, and the level.
+pub type Points = [[u32; 2]; MOST];
 
 /// The least room that meter_run writes to.
 pub const ROOM: usize = 2_097_152;
@@ -19,6 +21,7 @@ extern "C" {
     fn meter_done(block: *mut u8, bytes: usize, reading: u32, task: u8, answer: *mut Numbers) -> u8;
     fn meter_clock(block: *mut u8, bytes: usize, reading: u32, answer: *mut Numbers) -> u8;
     fn meter_listing(block: *const u8, bytes: usize, buffer: *mut u8, length: usize) -> usize;
+    fn meter_plan(block: *const u8, bytes: usize, task: u8, points: *mut Points) -> usize;
     fn meter_whole(block: *const u8, bytes: usize) -> u8;
 }
 
@@ -64,14 +67,23 @@ pub fn call(block: &mut [u8], call: Call) -> Result<Result<Answer, u8>, String> 
     }
 }
 
+/// How many, or a refusal's number; a third thing, which is a fault, is told as a number that no refusal has.
+fn counted(said: usize) -> Result<usize, u8> {
+    match (said % 256, said / 256) {
+        (_, 0) => Ok(said),
+        (0, number) => Err(number.try_into().unwrap_or(255)),
+        _ => Err(255),
+    }
+}
+
 /// The number waiting, or a refusal's number.
 pub fn listing(block: &[u8], buffer: &mut [u8]) -> Result<usize, u8> {
-    let said = unsafe { meter_listing(block.as_ptr(), block.len(), buffer.as_mut_ptr(), buffer.len()) };
-    if said < 256 {
-        Ok(said)
-    } else {
-        Err((said / 256) as u8)
-    }
+    counted(unsafe { meter_listing(block.as_ptr(), block.len(), buffer.as_mut_ptr(), buffer.len()) })
+}
+
+/// The number of points, or a refusal's number.
+pub fn plan(block: &[u8], task: u8, points: &mut Points) -> Result<usize, u8> {
+    counted(unsafe { meter_plan(block.as_ptr(), block.len(), task, points) })
 }
 
 pub fn whole(block: &[u8]) -> bool {

@@ -137,6 +137,14 @@ impl Kernel {
         self.waiting().iter().flat_map(|job| [self.level_at(job, self.clock), job.task]).collect()
     }
 
+    /// A task's plan, or 7.
+    pub fn plan(&self, task: u8) -> Result<Vec<(u32, u8)>, u8> {
+        if !self.is_task(task) {
+            return Err(7);
+        }
+        Ok(plan(&self.table, self.table[task as usize - 1].d))
+    }
+
     pub fn is_active(&self, task: u8) -> bool {
         self.unfinished.iter().any(|job| job.task == task)
     }
