@@ -1,7 +1,6 @@
 /* The kernel from C, by the paper's example: a table, its plans, twelve calls and their answers, refusals, the runner's whole output.
  *
- *     rt staticlib export
- *     cc -std=c99 -Iinclude examples/meter.c target/staticlib/libexport.a -o target/example
+ *     cc -std=c99 -Iinclude examples/meter.c "$(./meter library)" -o example && ./example
  *
  * It says what happens, line by line; it returns 1, and says what differs, where an answer is not the one that stands here beside it. */
 #include <stdio.h>

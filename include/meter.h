@@ -1,4 +1,4 @@
-/* The kernel for programs in C: link target/staticlib/libexport.a, which `rt staticlib export` makes.
+/* The kernel for programs in C: link the archive that `./meter library` builds and names.
  *
  * A block is kept by the caller as METER_BYTES bytes; other lengths are no whole block, and get 15. No function asks anything of its
  * arguments but that pointers lead to as many bytes as is said, and that what is written overlaps nothing else. A refusal writes nothing. */
