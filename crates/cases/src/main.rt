@@ -40,7 +40,7 @@ fn case(name: &[u8], file: i32) {
         os::fail(name);
         return;
     };
-    let ended = files::report(&stream[..length], 1);
+    let ended = files::print(&stream[..length], 1);
     if let Ended::NotWritten = ended {
         os::fail(name);
     }

@@ -1,3 +1,3 @@
--- What is proved of reading and reporting, beside their functions.
+-- What is proved of reading and printing, beside their functions.
 pub mod Inputs
 pub mod Letters

@@ -35,7 +35,7 @@ pub enum Ended {
 }
 
 // The runner's whole output for a stream, written to a descriptor. Only that of a refused stream begins with an X.
-pub fn report(stream: &[u8], to: i32) -> Ended
+pub fn print(stream: &[u8], to: i32) -> Ended
     ensures { λ r. ⌜ EndsAs (now (stream .entry)) r ⌝ }
 {
     let mut out = run::output_room();

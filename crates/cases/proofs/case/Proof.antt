@@ -27,11 +27,11 @@ returns c = search needs
 array-share-prefix-stream : tie.Need-array-share-prefix-stream
 array-share-prefix-stream c = let read = c .before .before .before .before .read-all in bytes-read (read .last .1 .0) (c .before .input .given .1) (read .ensures) .0
 
-slice-aggregate-report : tie.Need-slice-aggregate-report
-slice-aggregate-report c = let read = c .before .before .before .before .before .read-all in bytes-read (read .last .1 .0) (c .before .before .input .given .1) (read .ensures) .1
+slice-aggregate-print : tie.Need-slice-aggregate-print
+slice-aggregate-print c = let read = c .before .before .before .before .before .read-all in bytes-read (read .last .1 .0) (c .before .before .input .given .1) (read .ensures) .1
 
-report-requires : tie.Need-report-requires
-report-requires c κs = search needs
+print-requires : tie.Need-print-requires
+print-requires c κs = search needs
 
 enum-told-2 : tie.Need-enum-told-2
 enum-told-2 c = search needs
@@ -57,8 +57,8 @@ case-spec =
     fail-requires
     returns
     array-share-prefix-stream
-    slice-aggregate-report
-    report-requires
+    slice-aggregate-print
+    print-requires
     enum-told-2
     fail-requires-2
     returns-2

@@ -4,8 +4,8 @@ use native.Mathlib.Omega.{arith}
 use borrow.Author.Needs.{needs}
 use lib.Seq.{length-take-le}
 use Rattle.files.proofs.Letters.{ends-refused, ends-accepted}
-use Rattle.files.proofs.report.Statement.{statement}
-use Rattle.files.proofs.report.Tie as tie
+use Rattle.files.proofs.print.Statement.{statement}
+use Rattle.files.proofs.print.Tie as tie
 
 output-room-requires : tie.Need-output-room-requires
 output-room-requires c κs = search needs
@@ -43,8 +43,8 @@ returns-3 c =
     let room = c .before .before .before .before .before .before .before in
     ends-accepted (room .before .before .args .stream .now) (room .output-room .result) (ran .result) (ran .last .1 .0) (omega arith) (ran .ensures) (c .if2 .left)
 
-pub report-spec : {M : Type 1} → statement M
-report-spec =
+pub print-spec : {M : Type 1} → statement M
+print-spec =
     tie.close
     (tie.spec
     output-room-requires
