@@ -8,7 +8,7 @@
 //     meter_plan         when a task's job is promoted, and to which level
 //     meter_whole        whether the block is whole
 //
-// A refusal writes nothing: not one byte of the block, the answer or the buffer.
+// A refusal writes nothing: not one byte of the block, the answer, the buffer or the points.
 ghost use mathlib.Core.Path.{_≡_};
 ghost use Prim.Native.Nat.{_≤_};
 ghost use Rattle.rules.specs.Table.{most};
