@@ -31,7 +31,7 @@ mkdir -p target/bin && cp "$RUNNER" target/bin/runner""",
     "broken": """echo 'rt: laws proved (1 s)'; echo 'crates/rules/proofs/Steps.antt:3:1: error: it does not hold' >&2
 echo 'rt: rules NOT PROVED (exit 1, 2 s)'; echo 'rt: FAILED: rules'; exit 1""",
     "slow": """echo 'rt: laws proved (1 s)'; mktemp -d >/dev/null; mkdir -p target/bin; echo half >target/bin/runner; chmod +x target/bin/runner
-sleep 61 & sleep 62; wait""",
+echo $$ >"$W/pids"; sleep 61 & echo $! >>"$W/pids"; sleep 62""",
 }
 
 
