@@ -87,7 +87,7 @@ def header_enum():
 
 
 # a file, the marker lines in it, and what stands between them
-PLACES = (
+MADE = (
     (README, "<!-- refusals -->", "<!-- end of refusals -->", readme_table),
     (HEADER, "/* refusals */", "/* end of refusals */", header_enum),
 )
@@ -104,7 +104,7 @@ def renewed(text, first, last, lines):
 def write():
     """Writes what is not as it should be; the lines that say where that cannot be done."""
     wrong = []
-    for name, first, last, lines in PLACES:
+    for name, first, last, lines in MADE:
         old = door.read(ROOT / name)
         new = renewed(old, first, last, lines())
         if new is None:
@@ -121,7 +121,7 @@ def write():
 
 def stale():
     """The places that are not as they would be written."""
-    for name, first, last, lines in PLACES:
+    for name, first, last, lines in MADE:
         text = door.read(ROOT / name)
         if renewed(text, first, last, lines()) != text:
             yield f"{name}: not as tools/refusals.py writes it, between {first} and {last}"

@@ -21,9 +21,8 @@ use Rattle.rules.specs.Calls.{taskTest, plannedBy, plannedOf}
 use Rattle.rules.specs.Calls as Calls
 use Rattle.levels.specs.declared.Plan.{Plan}
 use Rattle.levels.specs.declared.Point as Stored
-use Rattle.levels.proofs.PlansHeld.{plan-fits}
-use Rattle.lines.specs.Shown.{pointOf, pointsIn}
-use Rattle.lines.proofs.Showing.{points-count, points-held}
+use Rattle.levels.specs.Copy.{pointIn, pointsIn}
+use Rattle.levels.proofs.PlansHeld.{plan-fits, points-count, points-held}
 use Rattle.kernel.specs.declared.Block.{Block}
 use Rattle.kernel.specs.declared.asks.Asked.{Asked}
 use Rattle.kernel.specs.declared.asks.Asked.the-variants as Asked
@@ -54,17 +53,17 @@ points-start before plan = filling-start before 0 (planNumbers (pointsIn plan))
 
 module _ {before : List ℕ} (plan : Plan) (few : plan .count ≤ length (plan .points)) {array : List ℕ} (i : ℕ) (now : PointsLeft before plan i array) where
   points-number : length (pointsIn plan) ≡ plan .count
-  points-number = length-map (take (plan .count) (plan .points)) pointOf ∙ length-take-le (plan .count) (plan .points) few
+  points-number = length-map (take (plan .count) (plan .points)) pointIn ∙ length-take-le (plan .count) (plan .points) few
 
-  point-is : (d : Stored.Point) → i < plan .count → getD (pointsIn plan) i (pointOf d) ≡ pointOf (getD (plan .points) i d)
-  point-is d h = List·getD-map pointOf (take (plan .count) (plan .points)) i d ∙ ap pointOf (getD-take (plan .count) (plan .points) i d h)
+  point-is : (d : Stored.Point) → i < plan .count → getD (pointsIn plan) i (pointIn d) ≡ pointIn (getD (plan .points) i d)
+  point-is d h = List·getD-map pointIn (take (plan .count) (plan .points)) i d ∙ ap pointIn (getD-take (plan .count) (plan .points) i d h)
 
   pub points-turn : (d : Stored.Point) → i < plan .count
       → PointsLeft before plan (i + 1) (set (set array (2 * i) (getD (plan .points) i d .at)) (2 * i + 1) (getD (plan .points) i d .level .0))
   points-turn d h =
       let e : 2 * (i + 1) ≡ 2 * i + 2 = omega arith in
-      rw (e, add-one (2 * i)) (filling-turn now (pointNumbers (pointOf (getD (plan .points) i d))) (planNumbers (drop (i + 1) (pointsIn plan)))
-      (numbers-first (pointsIn plan) i (pointOf d) (omega (arith, points-number)) ∙ ap (λ (p : Point). pointNumbers p ++ planNumbers (drop (i + 1) (pointsIn plan))) (point-is d h)))
+      rw (e, add-one (2 * i)) (filling-turn now (pointNumbers (pointIn (getD (plan .points) i d))) (planNumbers (drop (i + 1) (pointsIn plan)))
+      (numbers-first (pointsIn plan) i (pointIn d) (omega (arith, points-number)) ∙ ap (λ (p : Point). pointNumbers p ++ planNumbers (drop (i + 1) (pointsIn plan))) (point-is d h)))
 
   pub points-end : i ≡ plan .count → PlanPut before (pointsIn plan) array
   points-end e = puts-to (omega (arith, points-number)) (filling-puts now (numbers-none (pointsIn plan) i (omega (arith, points-number))))

@@ -14,7 +14,7 @@ ghost use Prim.Native.Nat.{_≤_};
 ghost use Rattle.rules.specs.Table.{most};
 ghost use Rattle.rules.specs.Calls.{Release, Done, Clock};
 ghost use Rattle.kernel.specs.Answers.{marginIn};
-ghost use Rattle.lines.specs.Shown.{pointsIn};
+ghost use Rattle.levels.specs.Copy.{pointsIn};
 ghost use Rattle.run.specs.Run.{Runs};
 ghost use Rattle.export.specs.Door.{kindOf, ticksOf, BlockSized, Answers, TellsStart, TellsListing, PlanPut, TellsPlan, Tells, TellsWhole};
 use image::BLOCK_BYTES;

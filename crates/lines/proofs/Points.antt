@@ -10,7 +10,7 @@ use Rattle.laws.proofs.Buffers.{puts-none, puts-then, puts-as, puts-length}
 use Rattle.rules.specs.Text.{numberText, column, pointsText}
 use Rattle.levels.specs.declared.Plan.{Plan}
 use Rattle.levels.specs.declared.Point.{Point}
-use Rattle.lines.specs.Shown.{pointOf, pointsIn}
+use Rattle.levels.specs.Copy.{pointIn, pointsIn}
 use Rattle.text.specs.Room.{numberRoom, columnRoom}
 use Rattle.lines.specs.Room.{pointsRoom}
 
@@ -20,7 +20,7 @@ pointText p = column (p .at) ++ 58 ∷ numberText (p .level .0)
 
 -- that of each of the first n
 abbrev firstText : ℕ → List Point → List ℕ
-firstText n ps = pointsText (map pointOf (take n ps))
+firstText n ps = pointsText (map pointIn (take n ps))
 
 first-next : (ps : List Point) (n : ℕ) (d : Point) → n < length ps → firstText n ps ++ pointText (getD ps n d) ≡ firstText (n + 1) ps
 unfolding pointsText

@@ -10,11 +10,9 @@ use Rattle.rules.specs.Levels.{levelOf, firstLevel, planFor, planOf}
 use Rattle.table.specs.Stored.{tableOf}
 use Rattle.table.proofs.Tests.{nth, table-length, table-at, few-passed}
 use Rattle.levels.specs.declared.Plan.{Plan}
-use Rattle.levels.specs.Copy.{Copied, held}
-use Rattle.levels.proofs.PlansHeld.{plan-fits}
+use Rattle.levels.specs.Copy.{Copied, held, pointsIn}
+use Rattle.levels.proofs.PlansHeld.{plan-fits, points-count, points-held}
 use Rattle.levels.proofs.Casts.{first-by}
-use Rattle.lines.specs.Shown.{pointsIn}
-use Rattle.lines.proofs.Showing.{points-count, points-held}
 use Rattle.jobs.specs.declared.Tasks.{Tasks}
 use Rattle.run.specs.Run.{LaidTask}
 
