@@ -83,7 +83,7 @@ pub plan-few : (b : Block) (k : ℕ) (p : Planned) → GivesPlan b k p → p .pl
 plan-few b k p g = go (g .whole) (g .decides) (g .then)
   where
     go : (w : Bool) → Decides w (Whole b) → PlansAs (pick w (plannedOf (viewOf b) k) (plannedBy (viewOf b) k (Failed NotWhole))) p → p .plan .count ≤ most
-    go true w x = omega (arith, ap (λ (q : Plan). q .count) (x .plan) ∙ points-count _, planned-few (viewOf b) k (w .table))
+    go true w x = omega (arith, ap (λ (q : Plan). q .count) (x .plan) ∙ points-count _, planned-few (viewOf b) k (w .tasks-whole .table))
     go false w x = omega (arith, ap (λ (q : Plan). q .count) (x .plan) ∙ points-count _)
 
 -- the number
@@ -96,7 +96,7 @@ number-not-given Asked.NotWhole h n = refl
 number-not-given Asked.NoSuchTask h n = refl
 
 -- what was stored and put, as the rules' plan
-plans-by : (x : Calls.Planned) (p : Planned) → PlansAs x p → {before after : List ℕ} {r : ℕ} → r ≡ numberBy (p .plan .count) (askedIn (p .answer))
+plans-by : (x : Calls.PlanAnswer) (p : Planned) → PlansAs x p → {before after : List ℕ} {r : ℕ} → r ≡ numberBy (p .plan .count) (askedIn (p .answer))
     → PlanPut before (pointsIn (p .plan)) after → PlansBy x before r after
 plans-by x p g {before} {after} n a = (
   n ∙ ap₂ numberBy (ap (λ (q : Plan). q .count) (g .plan) ∙ points-count (x .points)) (g .answer),

@@ -9,7 +9,7 @@ use lib.ListN.{length}
 use Rattle.laws.specs.Words.{pick, Decides, digit, written, Puts}
 use Rattle.rules.specs.Numbers.{NotWhole, numberOf, valueOf, given, Verdict, Passed, Failed, firstOf}
 use Rattle.rules.specs.Levels.{Point}
-use Rattle.rules.specs.Calls.{Call, Margin, None, Ticks, Answer, Accepted, Refused, Planned, plannedOf, plannedBy}
+use Rattle.rules.specs.Calls.{Call, Margin, None, Ticks, Answer, Accepted, Refused, PlanAnswer, plannedOf, plannedBy}
 use Rattle.rules.specs.Lines.{taskIn}
 use Rattle.rules.specs.Records.{tasksRead, runnerTests}
 use Rattle.kernel.specs.declared.Called.{Called}
@@ -107,7 +107,7 @@ abbrev pub PlanPut : List ℕ → List Point → List ℕ → Type 0
 PlanPut before points after = Puts before 0 (planNumbers points) (2 * length points) after
 
 -- the number of points, or 256 times the number of the refusal; a refused one has no points, so nothing is written
-abbrev pub PlansBy : Planned → List ℕ → ℕ → List ℕ → Type 0
+abbrev pub PlansBy : PlanAnswer → List ℕ → ℕ → List ℕ → Type 0
 PlansBy x before r after = (r ≡ numberBy (length (x .points)) (x .verdict)) × PlanPut before (x .points) after
 
 abbrev pub TellsPlanBy : List ℕ → ℕ → List ℕ → ℕ → List ℕ → Bool → Type 0

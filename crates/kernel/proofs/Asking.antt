@@ -13,7 +13,7 @@ use Rattle.rules.specs.Table.{most, isTask}
 use Rattle.rules.specs.Levels.{planFor, planOf}
 use Rattle.rules.specs.State.{State, waiting}
 use Rattle.rules.specs.Calls.{plannedOf}
-use Rattle.rules.specs.Listing.{bytesOf, listedOf}
+use Rattle.rules.specs.Listing.{listingBytes, listedOf}
 use Rattle.rules.proofs.Listings.{bytes-twice}
 use Rattle.table.specs.Stored.{tableOf}
 use Rattle.table.proofs.Tests.{nth}
@@ -41,7 +41,7 @@ module _ (s : State) (buffer : List ℕ) {n : ℕ} (counted : n ≡ length (wait
   unfolding listedOf firstOf
   listed-short h = rw (lt-ltb (length buffer) (2 * length (waiting s)) (omega arith))
 
-  pub listed-all : 2 * n ≤ length buffer → {end : ℕ} {after : List ℕ} → Puts buffer 0 (bytesOf (s .ready .lists)) end after
+  pub listed-all : 2 * n ≤ length buffer → {end : ℕ} {after : List ℕ} → Puts buffer 0 (listingBytes (s .ready .lists)) end after
       → listedIn (Listed.Waiting n) after ≡ listedOf s buffer
   unfolding listedOf firstOf
   listed-all h l =
@@ -52,7 +52,7 @@ module _ (s : State) (buffer : List ℕ) {n : ℕ} (counted : n ≡ length (wait
 
 -- the block's copy is one of its table
 pub copy-viewed : (b : Block) → Whole b → length (b .tasks .table .tasks) ≡ most → CopyOf (tableOf (b .tasks .table)) (b .tasks .rising)
-copy-viewed b w long = copy-counted (b .tasks .table) (b .tasks .rising) long (w .table) (w .copy)
+copy-viewed b w long = copy-counted (b .tasks .table) (b .tasks .rising) long (w .tasks-whole .table) (w .tasks-whole .copy)
 
 pub plan-none : (s : State) (k : ℕ) → isTask (s .table) k ≡ false → {p : Plan} → p ≡ held [] → PlansAs (plannedOf s k) (record { answer = Asked.NoSuchTask; plan = p })
 unfolding plannedOf firstOf

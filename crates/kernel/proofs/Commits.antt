@@ -132,7 +132,7 @@ module _ {b : Block} {c : Call} {time : ℕ} (g : Goes b c time) where
         refused = λ q e. accepted-refused answer e;
         whole =
             state-whole (subst Rules.Whole (sym after) (whole-step s c state))
-            (ap (λ (t : Tasks). take (t .table .count) (t .rising)) (same .tasks) ∙ g .whole .copy ∙ sym (ap (λ (t : Tasks). risingOf (tableOf (t .table))) (same .tasks))) links;
+            (ap (λ (t : Tasks). take (t .table .count) (t .rising)) (same .tasks) ∙ g .whole .tasks-whole .copy ∙ sym (ap (λ (t : Tasks). risingOf (tableOf (t .table))) (same .tasks))) links;
       }
     where
       after : viewOf (r .block) ≡ stepOf s c .state
@@ -146,13 +146,13 @@ module _ {b : Block} {c : Call} {time : ℕ} (g : Goes b c time) where
         → Levelled (b .tasks) jobs at k
     levelled jobs k at h t p =
         record {
-          dated = record { tested = g .whole .table; task = t; past = omega (arith, high) };
-          copy = copy-counted (b .tasks .table) (b .tasks .rising) long (g .whole .table) (g .whole .copy);
+          dated = record { tested = g .whole .tasks-whole .table; task = t; past = omega (arith, high) };
+          copy = copy-counted (b .tasks .table) (b .tasks .rising) long (g .whole .tasks-whole .table) (g .whole .tasks-whole .copy);
           high = h;
         }
 
     past : (k : ℕ) → Rules.timeOf (s .released k) ≤ time
-    past k = omega (arith, g .whole .past k, later)
+    past k = omega (arith, g .whole .jobs-whole .past k, later)
 
     pub promotable : (at : ℕ) → at ≤ lastTick → Promotable (b .tasks) (b .jobs) at (b .ready .lists)
     promotable at h =
@@ -161,7 +161,7 @@ module _ {b : Block} {c : Call} {time : ℕ} (g : Goes b c time) where
           stores = lists-held (g .whole .links .stores);
           known = λ l k m. levelled (b .jobs) k at h (g .whole .waiter l k m .task) (past k);
           high =
-              λ l k m. omega (arith, g .whole .place l k m, level-high (s .table) k (g .whole .waiter l k m .task) (Rules.deadlineIn s k) (s .clock) (omega (arith, g .whole .past k)));
+              λ l k m. omega (arith, g .whole .place l k m, level-high (s .table) k (g .whole .waiter l k m .task) (Rules.deadlineIn s k) (s .clock) (omega (arith, g .whole .jobs-whole .past k)));
         }
 
   -- the lists are those of the new levels, and the moves are counted
@@ -196,7 +196,7 @@ moved-does {b} {n} {time} g after k m e is =
 -- a task has a place
 pub place : {b : Block} {c : Call} {time : ℕ} → Goes b c time → length (b .jobs) ≡ suc most → (k : ℕ) → isTask (tableOf (b .tasks .table)) k ≡ true → k < length (b .jobs)
 place {b} g long k task =
-    let few = passed-to-3 (tableOf (b .tasks .table)) (g .whole .table) in
+    let few = passed-to-3 (tableOf (b .tasks .table)) (g .whole .tasks-whole .table) in
     let in-table : (1 ≤ k) × (k ≤ length (tableOf (b .tasks .table))) = both-le task in
     omega (arith, long, in-table, few)
 
@@ -236,7 +236,7 @@ module _ {b : Block} {n k time : ℕ} (g : Goes b (Done n k) time) where
   running-task = g .whole .runner k runs .task
 
   pub running-dated : Dated (b .tasks .table) (b .jobs) k × (time ≤ lastTick)
-  running-dated = (record { tested = g .whole .table; task = running-task; past = omega (arith, g .whole .past k, g .whole .ticks) }, high g)
+  running-dated = (record { tested = g .whole .tasks-whole .table; task = running-task; past = omega (arith, g .whole .jobs-whole .past k, g .whole .ticks) }, high g)
 
   -- the margin as it lies in 64 bits
   pub margin-held : (z : ℤ) → z ≡ remainingOf (Rules.deadlineIn (viewOf b) k) time → toZ w64 (ofZ w64 z) ≡ remainingOf (Rules.deadlineIn (viewOf b) k) time
@@ -303,7 +303,7 @@ module _ {b : Block} {n k time : ℕ} (g : Goes b (Release n k) time) where
               omega (
                 arith,
                 level-high (tableOf (b .tasks .table)) j t (Rules.deadlineOf (tableOf (b .tasks .table)) (releasedIn (b .tasks .table) jobs) j) time (omega (arith, none-later j)),
-                passed-to-3 (tableOf (b .tasks .table)) (g .whole .table),
+                passed-to-3 (tableOf (b .tasks .table)) (g .whole .tasks-whole .table),
               );
           absent = a;
         }

@@ -8,9 +8,9 @@ use Rattle.rules.specs.Numbers.{Refusal, NotWhole, Test, Verdict, Passed, Faile
 use Rattle.rules.specs.State.{State}
 use Rattle.rules.specs.Table.{tableTests}
 use Rattle.rules.specs.Calls.{Call, startOf, Refused, taskTest, testsOf, plannedBy, plannedOf, stepOf}
-use Rattle.rules.specs.Listing.{Listed, listingTests, listedBy, listedOf}
+use Rattle.rules.specs.Listing.{ListingAnswer, listingTests, listedBy, listedOf}
 use Rattle.rules.specs.Histories.{Event}
-use Rattle.rules.specs.Demands.{Exactly, verdictIn}
+use Rattle.rules.specs.Demands.{Exactly, answerVerdict}
 use Rattle.rules.proofs.Tables.{demand-1-table}
 use Rattle.rules.proofs.Verdicts.{passed-failed, verdict-cases, exactly}
 use Rattle.rules.proofs.Refusals.{call-numbers, never-15}
@@ -40,8 +40,8 @@ first-15 tests false = refl
 exactly-15 : (tests : List Test) (w : Bool) (v : Verdict) → v ≡ pick w (firstOf tests) (Failed NotWhole) → Exactly (with15 tests w) v
 exactly-15 tests w v e = exactly (with15 tests w) v (first-15 tests w ∙ sym e)
 
-step-verdict : (s : State) (c : Call) → verdictIn (stepOf s c .answer) ≡ firstOf (testsOf s c)
-step-verdict s c = step-cases (λ x. verdictIn (x .answer) ≡ firstOf (testsOf s c)) s c (λ r e. sym e) (λ e. sym e)
+step-verdict : (s : State) (c : Call) → answerVerdict (stepOf s c .answer) ≡ firstOf (testsOf s c)
+step-verdict s c = step-cases (λ x. answerVerdict (x .answer) ≡ firstOf (testsOf s c)) s c (λ r e. sym e) (λ e. sym e)
 
 plan-verdict : (s : State) (k : ℕ) → plannedOf s k .verdict ≡ firstOf (taskTest (s .table) k ∷ [])
 unfolding plannedOf
@@ -67,17 +67,17 @@ demand-1 b =
       calls = λ c r. then-15 (called c r);
       unchanged = λ c r g q e. either-15 (r .block ≡ b) (same c r q e) g;
       listing =
-          λ before r after. then-15 (λ w e. exactly-15 (listingTests s before) w _ (ap (λ (x : Listed). x .verdict) e ∙ listed before w));
-      unwritten = λ before r after g q v. either-15 (after ≡ before) (λ w e. sym (buffer-is r after) ∙ ap (λ (x : Listed). x .buffer) e ∙ kept before q w (sym (ap (λ (x : Listed). x .verdict) e) ∙ v)) g;
+          λ before r after. then-15 (λ w e. exactly-15 (listingTests s before) w _ (ap (λ (x : ListingAnswer). x .verdict) e ∙ listed before w));
+      unwritten = λ before r after g q v. either-15 (after ≡ before) (λ w e. sym (buffer-is r after) ∙ ap (λ (x : ListingAnswer). x .buffer) e ∙ kept before q w (sym (ap (λ (x : ListingAnswer). x .verdict) e) ∙ v)) g;
       plan = λ k r. then-15 (λ w p. exactly-15 (taskTest (s .table) k ∷ []) w _ (p .answer ∙ planned k w));
     }
   where
     s : State
     s = viewOf b
 
-    called : (c : Call) (r : Called) (w : Bool) → GivesBy b c r w → Exactly (with15 (testsOf s c) w) (verdictIn (said r))
-    called c r true g = exactly-15 (testsOf s c) true _ (ap verdictIn (g .answer) ∙ step-verdict s c)
-    called c r false g = exactly-15 (testsOf s c) false _ (ap (λ (x : Called). verdictIn (said x)) g)
+    called : (c : Call) (r : Called) (w : Bool) → GivesBy b c r w → Exactly (with15 (testsOf s c) w) (answerVerdict (said r))
+    called c r true g = exactly-15 (testsOf s c) true _ (ap answerVerdict (g .answer) ∙ step-verdict s c)
+    called c r false g = exactly-15 (testsOf s c) false _ (ap (λ (x : Called). answerVerdict (said x)) g)
 
     same : (c : Call) (r : Called) (q : Refusal) → said r ≡ Refused q → (w : Bool) → GivesBy b c r w → r .block ≡ b
     same c r q e true g = g .refused q e

@@ -138,8 +138,8 @@ buffer-is Listed.BufferTooShort buffer = refl
 -- of what they say there is one answer and one buffer
 pub listed-one : (r x : Listed) (after last : List ℕ) → listedIn x last ≡ listedIn r after → (x ≡ r) × (last ≡ after)
 listed-one r x after last e = (
-  sym (listed-same x last) ∙ ap (λ (y : Rules.Listed). listed-by (Numbers.numberIn (y .verdict)) (y .waiting)) e ∙ listed-same r after,
-  sym (buffer-is x last) ∙ ap (λ (y : Rules.Listed). y .buffer) e ∙ buffer-is r after,
+  sym (listed-same x last) ∙ ap (λ (y : Rules.ListingAnswer). listed-by (Numbers.numberIn (y .verdict)) (y .waiting)) e ∙ listed-same r after,
+  sym (buffer-is x last) ∙ ap (λ (y : Rules.ListingAnswer). y .buffer) e ∙ buffer-is r after,
 )
 
 pub listing-one : (b : Block) (before : List ℕ) (r x : Listed) (after last : List ℕ) → GivesListing b before r after → GivesListing b before x last → (x ≡ r) × (last ≡ after)
@@ -154,7 +154,7 @@ asked-same Asked.Given = refl
 asked-same Asked.NotWhole = refl
 asked-same Asked.NoSuchTask = refl
 
-pub plans-one : (y : Calls.Planned) (r x : Planned) → PlansAs y r → PlansAs y x → x ≡ r
+pub plans-one : (y : Calls.PlanAnswer) (r x : Planned) → PlansAs y r → PlansAs y x → x ≡ r
 plans-one y r x p q =
     ap₂ (λ (a : Asked) (z : Plan). record { answer = a; plan = z })
     (sym (asked-same (x .answer)) ∙ ap (λ (v : Numbers.Verdict). asked-by (Numbers.numberIn v)) (q .answer ∙ sym (p .answer)) ∙ asked-same (r .answer)) (q .plan ∙ sym (p .plan))

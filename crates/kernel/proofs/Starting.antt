@@ -103,7 +103,7 @@ no-table = refl
 pub refused-start-not-whole : {table : Table} {reading : ℕ} {r : Started} → Starts table reading r → (q : Refusal) → verdictOf (tableOf table) ≡ Failed q → Whole (r .block) → ⊥
 refused-start-not-whole {table} {reading} {r} st q e w =
     let f : Fresh noTasks 0 (r .block) = subst (StartsBy table reading (r .block)) e (st .block) in
-    omega (arith, passed-to-3 [] (subst (λ (ts : List Task). firstOf (testsTo3 ts) ≡ Passed) (ap (λ (t : Tasks). tableOf (t .table)) (f .held) ∙ no-table) (w .table)))
+    omega (arith, passed-to-3 [] (subst (λ (ts : List Task). firstOf (testsTo3 ts) ≡ Passed) (ap (λ (t : Tasks). tableOf (t .table)) (f .held) ∙ no-table) (w .tasks-whole .table)))
 
 -- ---- one result
 

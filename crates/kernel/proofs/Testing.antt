@@ -10,7 +10,7 @@ use lib.ListN.{length}
 use Rattle.rules.specs.Numbers.{Test, Passed, firstOf}
 use Rattle.rules.specs.Table.{most, isTask}
 use Rattle.rules.specs.State.{State, timeOf}
-use Rattle.rules.specs.Calls.{Call, Clock, readingOf, timeAt, tooSoon, isRunning, clockTests, taskTest, laterTests, testsOf}
+use Rattle.rules.specs.Calls.{Call, Clock, readingOf, timeAt, tooSoon, isRunning, clockTests, taskTest, releaseTests, doneTests, laterTests, testsOf}
 use Rattle.rules.proofs.Verdicts.{first-append, first-append-failed}
 use Rattle.table.specs.declared.TaskNo.{TaskNo}
 use Rattle.table.proofs.Tests.{nth}
@@ -31,7 +31,7 @@ use Rattle.kernel.specs.declared.tests.Checked.{Checked}
 use Rattle.kernel.specs.declared.tests.Checked.the-variants as Checked
 use Rattle.kernel.specs.Block.{viewOf, Whole}
 use Rattle.kernel.specs.Answers.{refusalIn}
-use Rattle.kernel.specs.Tests.{checkedIn, goOn, checkedOf, releaseTestsOf, doneTestsOf}
+use Rattle.kernel.specs.Tests.{checkedIn, goOn, checkedOf}
 
 -- ---- tests 5 and 6, and those behind them
 
@@ -78,7 +78,7 @@ module _ (b : Block) (long : length (b .tasks .table .tasks) ≡ most) (k : ℕ)
 
   -- a task of a whole block
   pub asked-dated : Whole b → not r ≡ false → Dated (b .tasks .table) (b .jobs) k
-  asked-dated w h = record { tested = w .table; task = asked-task h; past = omega (arith, w .past k, w .ticks) }
+  asked-dated w h = record { tested = w .tasks-whole .table; task = asked-task h; past = omega (arith, w .jobs-whole .past k, w .ticks) }
 
   pub no-such-task : (time : ℕ) (xs : List Test) → not r ≡ true → checkedIn (Checked.No Refusal.NoSuchTask) ≡ goOn time (taskTest (viewOf b .table) k ∷ xs)
   unfolding firstOf
@@ -95,7 +95,7 @@ module _ {l : Last} {t : ℕ} (e : l ≡ Last.At t) where
   soon-at spacing time = rw e
 
 module _ (b : Block) (time k : ℕ) (d : Dated (b .tasks .table) (b .jobs) k) where
-  pub task-active : jobAt (b .jobs) k .active ≡ true → checkedIn (Checked.No Refusal.TaskActive) ≡ goOn time (releaseTestsOf (viewOf b) time k)
+  pub task-active : jobAt (b .jobs) k .active ≡ true → checkedIn (Checked.No Refusal.TaskActive) ≡ goOn time (releaseTests (viewOf b) time k)
   unfolding firstOf
   task-active a = rw (d .task, a)
 
@@ -103,11 +103,11 @@ module _ (b : Block) (time k : ℕ) (d : Dated (b .tasks .table) (b .jobs) k) wh
     abbrev soon : Bool
     soon = tooSoon (lastIn (jobAt (b .jobs) k .last)) (nth (b .tasks .table) (k - 1) .t) time
 
-    pub released-soon : soon ≡ true → checkedIn (Checked.No Refusal.TooSoon) ≡ goOn time (releaseTestsOf (viewOf b) time k)
+    pub released-soon : soon ≡ true → checkedIn (Checked.No Refusal.TooSoon) ≡ goOn time (releaseTests (viewOf b) time k)
     unfolding firstOf
     released-soon h = rw (d .task, dated-entry d long, a, h)
 
-    pub may-release : soon ≡ false → checkedIn (Checked.Go time) ≡ goOn time (releaseTestsOf (viewOf b) time k)
+    pub may-release : soon ≡ false → checkedIn (Checked.Go time) ≡ goOn time (releaseTests (viewOf b) time k)
     unfolding firstOf
     may-release h = rw (d .task, dated-entry d long, a, h)
 
@@ -117,10 +117,10 @@ pub runs-one : {w : Who} {t : TaskNo} → w ≡ Who.One t → (k : ℕ) → eqb 
 runs-one e k = rw e
 
 module _ (b : Block) (time k : ℕ) (task : isTask (viewOf b .table) k ≡ true) where
-  pub not-running : isRunning (whoIn (b .ready .running)) k ≡ false → checkedIn (Checked.No Refusal.NotRunning) ≡ goOn time (doneTestsOf (viewOf b) k)
+  pub not-running : isRunning (whoIn (b .ready .running)) k ≡ false → checkedIn (Checked.No Refusal.NotRunning) ≡ goOn time (doneTests (viewOf b) k)
   unfolding firstOf
   not-running h = rw (task, h)
 
-  pub may-end : isRunning (whoIn (b .ready .running)) k ≡ true → checkedIn (Checked.Go time) ≡ goOn time (doneTestsOf (viewOf b) k)
+  pub may-end : isRunning (whoIn (b .ready .running)) k ≡ true → checkedIn (Checked.Go time) ≡ goOn time (doneTests (viewOf b) k)
   unfolding firstOf
   may-end h = rw (task, h)

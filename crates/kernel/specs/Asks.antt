@@ -18,7 +18,7 @@ use Rattle.kernel.specs.Block.{viewOf, Test15}
 -- ---- the listing
 
 -- what an answer says, with what the buffer holds then
-abbrev pub listedIn : Listed → List ℕ → Listing.Listed
+abbrev pub listedIn : Listed → List ℕ → Listing.ListingAnswer
 listedIn (Listed.Waiting n) buffer = record { verdict = Numbers.Passed; waiting = n; buffer = buffer }
 listedIn Listed.NotWhole buffer = record { verdict = Numbers.Failed Numbers.NotWhole; waiting = 0; buffer = buffer }
 listedIn Listed.BufferTooShort buffer = record { verdict = Numbers.Failed Numbers.BufferTooShort; waiting = 0; buffer = buffer }
@@ -36,7 +36,7 @@ askedIn Asked.NotWhole = Numbers.Failed Numbers.NotWhole
 askedIn Asked.NoSuchTask = Numbers.Failed Numbers.NoSuchTask
 
 -- the verdict and the plan, stored; with no points it is all zero
-pub record PlansAs (x : Calls.Planned) (r : Planned) : Type 0 where
+pub record PlansAs (x : Calls.PlanAnswer) (r : Planned) : Type 0 where
   pub answer : askedIn (r .answer) ≡ x .verdict
   pub plan : r .plan ≡ held (x .points)
 

@@ -51,7 +51,7 @@ pub record Demand1Start (table : Table) (r : Started) : Type 0 where
 -- of any block, whole or not
 pub record Demand1 (b : Block) : Type 0 where
   -- "Calls test 15, 5, 6, 7, then 8 and 9, or 10. The clock call stops after 6."
-  pub calls : (c : Call) (r : Called) → Gives b c r → Test15 b (λ whole. Rules.Exactly (with15 (testsOf (viewOf b) c) whole) (Rules.verdictIn (said r)))
+  pub calls : (c : Call) (r : Called) → Gives b c r → Test15 b (λ whole. Rules.Exactly (with15 (testsOf (viewOf b) c) whole) (Rules.answerVerdict (said r)))
   pub unchanged : (c : Call) (r : Called) → Gives b c r → (q : Refusal) → said r ≡ Refused q → r .block ≡ b
   -- "The listing tests 15, then 11"
   pub listing : (before : List ℕ) (r : Listed) (after : List ℕ) → GivesListing b before r after

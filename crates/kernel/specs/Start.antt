@@ -7,7 +7,7 @@ use Rattle.rules.specs.Numbers.{Verdict, Passed, Failed}
 use Rattle.rules.specs.Table.{most, verdictOf}
 use Rattle.rules.specs.Levels.{risingOf}
 use Rattle.table.specs.declared.Table.{Table}
-use Rattle.table.specs.Stored.{tableOf, verdictIn}
+use Rattle.table.specs.Stored.{noEntry, tableOf, verdictIn}
 use Rattle.lists.specs.declared.Who.the-variants.{Nobody}
 use Rattle.lists.specs.Links.{Stores}
 use Rattle.jobs.specs.declared.Tasks.{Tasks}
@@ -29,7 +29,7 @@ laidDown table = record { table = table; rising = risingOf (tableOf table) ++ re
 
 -- "every field is zero"
 abbrev pub noTasks : Tasks
-noTasks = record { table = record { count = 0; tasks = replicate most (record { c = 0; d = 0; t = 0 }) }; rising = replicate most 0 }
+noTasks = record { table = record { count = 0; tasks = replicate most noEntry }; rising = replicate most 0 }
 
 -- "A refused start hands back, with its number, a block whose every field is zero or nobody"
 abbrev pub StartsBy : Table → ℕ → Block → Verdict → Type 0

@@ -1,11 +1,9 @@
 -- What the tests of a call find.
 use Prim.Native.Nat.{ℕ}
-use mathlib.Core.Bool.{not}
-use mathlib.Core.List.{List, [], _∷_}
-use Rattle.rules.specs.Numbers.{TaskActive, TooSoon, NotRunning, Test, refuse, Passed, Failed, firstOf}
-use Rattle.rules.specs.Table.{taskAt}
+use mathlib.Core.List.{List}
+use Rattle.rules.specs.Numbers.{Test, Passed, Failed, firstOf}
 use Rattle.rules.specs.State.{State}
-use Rattle.rules.specs.Calls.{Call, readingOf, timeAt, tooSoon, isRunning, taskTest, testsOf}
+use Rattle.rules.specs.Calls.{Call, readingOf, timeAt, testsOf}
 use Rattle.clock.specs.Advance.{Advanced, advancedBy}
 use Rattle.kernel.specs.declared.tests.Checked.{Checked}
 use Rattle.kernel.specs.declared.tests.Checked.the-variants as Checked
@@ -23,11 +21,3 @@ goOn time tests = advancedBy time (firstOf tests)
 -- what the tests of the call come to
 abbrev pub checkedOf : State → Call → Advanced
 checkedOf s c = goOn (timeAt s (readingOf c)) (testsOf s c)
-
--- "7, then 8 and 9" of a release at this time; "or 10" (the rules' `laterTests`)
-abbrev pub releaseTestsOf : State → ℕ → ℕ → List Test
-releaseTestsOf s time k =
-    taskTest (s .table) k ∷ refuse TaskActive (s .active k) ∷ refuse TooSoon (tooSoon (s .released k) (taskAt (s .table) k .t) time) ∷ []
-
-abbrev pub doneTestsOf : State → ℕ → List Test
-doneTestsOf s k = taskTest (s .table) k ∷ refuse NotRunning (not (isRunning (s .ready .running) k)) ∷ []

@@ -3,11 +3,11 @@ ghost use mathlib.Core.Path.{_≡_};
 ghost use Prim.Native.Nat.{_≤_};
 ghost use Rattle.rules.specs.Clock.{lastTick};
 ghost use Rattle.rules.specs.State.{timeOf};
-ghost use Rattle.rules.specs.Calls.{Release, Done, Clock, tooSoon, isRunning};
+ghost use Rattle.rules.specs.Calls.{Release, Done, Clock, tooSoon, isRunning, releaseTests, doneTests};
 ghost use Rattle.lists.specs.Answers.{whoIn};
 ghost use Rattle.jobs.specs.Kept.{lastIn};
 ghost use Rattle.kernel.specs.Block.{viewOf, Whole};
-ghost use Rattle.kernel.specs.Tests.{checkedIn, checkedOf, releaseTestsOf, doneTestsOf, goOn};
+ghost use Rattle.kernel.specs.Tests.{checkedIn, checkedOf, goOn};
 use super::Block;
 use super::Refusal;
 use clock::Moved;
@@ -85,7 +85,7 @@ impl Block {
     // 7, 8, 9 of a release at this time.
     fn may_release(self, time: u64, task: TaskNo) -> Checked
         requires { ⌜ Whole self ⌝ }
-        ensures { λ r. ⌜ checkedIn r ≡ goOn time (releaseTestsOf (viewOf self) time (task .0)) ⌝ }
+        ensures { λ r. ⌜ checkedIn r ≡ goOn time (releaseTests (viewOf self) time (task .0)) ⌝ }
     {
         let table = self.tasks.table;
         if !in_table(table.count, task) {
@@ -108,7 +108,7 @@ impl Block {
     // 7, 10 of a done at this time.
     fn may_end(self, time: u64, task: TaskNo) -> Checked
         requires { ⌜ Whole self ⌝ }
-        ensures { λ r. ⌜ checkedIn r ≡ goOn time (doneTestsOf (viewOf self) (task .0)) ⌝ }
+        ensures { λ r. ⌜ checkedIn r ≡ goOn time (doneTests (viewOf self) (task .0)) ⌝ }
     {
         let known = in_table(self.tasks.table.count, task);
         let ready = self.ready;

@@ -9,7 +9,7 @@ use Rattle.laws.proofs.Buffers.{Filling, filling-start, filling-room, filling-n
 use Rattle.laws.proofs.Families.{joined-turn, joined-over}
 use Rattle.rules.specs.Table.{most}
 use Rattle.rules.specs.State.{listing}
-use Rattle.rules.specs.Listing.{pairsOf, bytesOf}
+use Rattle.rules.specs.Listing.{pairsOf, listingBytes}
 
 -- the lists from level l up
 abbrev from : (ℕ → List ℕ) → ℕ → List ℕ
@@ -48,11 +48,11 @@ pairsIn ls l = pairsOf l (ls l)
 -- the jobs of the lists passed are in the buffer, up to i
 pub record Listing (ls : ℕ → List ℕ) (before : List ℕ) (l i : ℕ) (buffer : List ℕ) : Type 0 where
   pub low : 1 ≤ l
-  pub filling : Filling before 0 (bytesOf ls) i (from (pairsIn ls) l) buffer
+  pub filling : Filling before 0 (listingBytes ls) i (from (pairsIn ls) l) buffer
 
 pub listing-start : (ls : ℕ → List ℕ) (before : List ℕ) → Listing ls before 1 0 before
-unfolding bytesOf
-listing-start ls before = record { low = omega arith; filling = filling-start before 0 (bytesOf ls) }
+unfolding listingBytes
+listing-start ls before = record { low = omega arith; filling = filling-start before 0 (listingBytes ls) }
 
 module _ {ls : ℕ → List ℕ} {before : List ℕ} {l i : ℕ} {buffer : List ℕ} (now : Listing ls before l i buffer) where
   split : l ≤ most → from (pairsIn ls) l ≡ pairsIn ls l ++ from (pairsIn ls) (l + 1)
@@ -61,11 +61,11 @@ module _ {ls : ℕ → List ℕ} {before : List ℕ} {l i : ℕ} {buffer : List 
   nothing-left : most < l → from (pairsIn ls) l ≡ []
   nothing-left h = joined-over (pairsIn ls) (suc most) l h
 
-  pub listing-room : l ≤ most → i + length (pairsOf l (ls l)) ≤ length (bytesOf ls)
+  pub listing-room : l ≤ most → i + length (pairsOf l (ls l)) ≤ length (listingBytes ls)
   listing-room h = omega (arith, filling-room (now .filling) (pairsIn ls l) (from (pairsIn ls) (l + 1)) (split h))
 
   pub listing-turn : {k : ℕ} {after : List ℕ} → l ≤ most → Puts buffer i (pairsOf l (ls l)) k after → Listing ls before (l + 1) k after
   listing-turn h w = record { low = omega arith; filling = filling-next (now .filling) (pairsIn ls l) (from (pairsIn ls) (l + 1)) (split h) w }
 
-  pub listing-end : most < l → Puts before 0 (bytesOf ls) i buffer
+  pub listing-end : most < l → Puts before 0 (listingBytes ls) i buffer
   listing-end h = filling-puts (now .filling) (nothing-left h)

@@ -6,7 +6,7 @@ use lib.ListN.{length}
 use Rattle.laws.specs.Words.{behind, put}
 use Rattle.rules.specs.State.{Running, Nobody, One}
 use Rattle.rules.specs.Calls.{toEnd, frontOf}
-use Rattle.rules.specs.Listing.{pairsOf, bytesOf}
+use Rattle.rules.specs.Listing.{pairsOf, listingBytes}
 use Rattle.lists.specs.declared.Lists.{Lists}
 use Rattle.lists.specs.declared.Stored.{Stored}
 use Rattle.lists.specs.declared.Popped.{Popped}
@@ -77,4 +77,4 @@ pub record RoomFor (s : Lists) (l place n : ℕ) : Type 0 where
 pub record RoomForAll (s : Lists) (n : ℕ) : Type 0 where
   pub lists : ℕ → List ℕ
   pub stores : Stores s lists
-  pub room : length (bytesOf lists) ≤ n
+  pub room : length (listingBytes lists) ≤ n

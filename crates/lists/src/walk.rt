@@ -5,7 +5,7 @@ ghost use Prim.Native.Nat.{ℕ};
 ghost use lib.ListN.{length};
 ghost use Rattle.laws.specs.Words.{Puts};
 ghost use Rattle.rules.specs.State.{listing};
-ghost use Rattle.rules.specs.Listing.{pairsOf, bytesOf};
+ghost use Rattle.rules.specs.Listing.{pairsOf, listingBytes};
 ghost use Rattle.lists.specs.Links.{Stores};
 ghost use Rattle.lists.specs.Answers.{Holds, HoldsAt, RoomFor, RoomForAll};
 use super::Lists;
@@ -62,7 +62,7 @@ impl Lists {
     // All lists, from level 1 up, into the buffer from its front; the place behind them.
     pub fn list_all(self, buffer: &mut [u8]) -> usize
         requires { ⌜ RoomForAll self (length (now buffer)) ⌝ }
-        ensures { λ r. ⌜ ((ls : ℕ → List ℕ) → Stores self ls → Puts (now (buffer .entry)) 0 (bytesOf ls) r (now (buffer .exit))) ⌝ }
+        ensures { λ r. ⌜ ((ls : ℕ → List ℕ) → Stores self ls → Puts (now (buffer .entry)) 0 (listingBytes ls) r (now (buffer .exit))) ⌝ }
     {
         let mut at: usize = 0;
         for level in 1..=MOST as u8 {

@@ -21,7 +21,7 @@ use Rattle.jobs.specs.declared.Tasks.{Tasks}
 use Rattle.jobs.specs.Kept.{lastIn, jobAt, releasedIn, levelsAt, Dated, Levelled}
 use Rattle.jobs.proofs.Keeping.{dated-time, dated-task}
 use Rattle.queue.specs.Asked.{Datable}
-use Rattle.queue.specs.Row.{byteTask, tasksIn, WaitsRight, AllWait, inRow, RowDated}
+use Rattle.queue.specs.Row.{byteTask, rowTasks, WaitsRight, AllWait, inRow, RowDated}
 use Rattle.queue.proofs.Dates.{datable-dated}
 
 -- ---- who may stand where
@@ -61,7 +61,7 @@ row-low first bytes long d i h = omega (arith, dated-task (d i h) long)
 -- ---- marks
 
 -- one more of those that wait
-pub marked-next : (before seen : List Bool) (bytes : List ℕ) (i : ℕ) → seen ≡ marked before (tasksIn bytes i)
-    → set seen (byteTask bytes i) true ≡ marked before (tasksIn bytes (i + 1))
-unfolding marked tasksIn
-marked-next before seen bytes i e = rw (add-one i, e) (sym (marked-append before (tasksIn bytes i) (byteTask bytes i ∷ [])))
+pub marked-next : (before seen : List Bool) (bytes : List ℕ) (i : ℕ) → seen ≡ marked before (rowTasks bytes i)
+    → set seen (byteTask bytes i) true ≡ marked before (rowTasks bytes (i + 1))
+unfolding marked rowTasks
+marked-next before seen bytes i e = rw (add-one i, e) (sym (marked-append before (rowTasks bytes i) (byteTask bytes i ∷ [])))

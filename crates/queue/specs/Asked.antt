@@ -15,14 +15,17 @@ use Rattle.jobs.specs.declared.Job.{Job}
 use Rattle.jobs.specs.declared.Tasks.{Tasks}
 use Rattle.jobs.specs.Kept.{releasedIn, activeIn}
 
+-- "its table passes tests 1 to 3; its rising copy of the deadlines agrees with the table"
 pub record TasksWhole (tasks : Tasks) : Type 0 where
   pub table : firstOf (testsTo3 (tableOf (tasks .table))) ≡ Passed
   pub copy : take (tasks .table .count) (tasks .rising) ≡ risingOf (tableOf (tasks .table))
 
+-- "every active job has a release time, and no release time lies after the clock"
 pub record JobsWhole (table : Table) (jobs : List Job) (clock : ℕ) : Type 0 where
   pub known : (k : ℕ) → activeIn table jobs k ≡ true → releasedIn table jobs k ≡ At (timeOf (releasedIn table jobs k))
   pub past : (k : ℕ) → timeOf (releasedIn table jobs k) ≤ clock
 
+-- .. "its clock is at most 2^40"
 pub record Datable (tasks : Tasks) (jobs : List Job) (clock : ℕ) : Type 0 where
   pub tasks-whole : TasksWhole tasks
   pub jobs-whole : JobsWhole (tasks .table) jobs clock

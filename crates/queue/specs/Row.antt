@@ -20,9 +20,9 @@ abbrev pub byteTask : List ℕ → ℕ → ℕ
 byteTask bytes i = getD bytes (2 * i + 1) 0
 
 -- the tasks of the first n
-unfoldable pub tasksIn : List ℕ → ℕ → List ℕ
-tasksIn bytes zero = []
-tasksIn bytes (suc n) = tasksIn bytes n ++ byteTask bytes n ∷ []
+unfoldable pub rowTasks : List ℕ → ℕ → List ℕ
+rowTasks bytes zero = []
+rowTasks bytes (suc n) = rowTasks bytes n ++ byteTask bytes n ∷ []
 
 -- no more wait than there are tasks
 abbrev pub Few : ℕ → Type 0
@@ -58,4 +58,4 @@ pub record RunsWhole (tasks : Tasks) (jobs : List Job) (clock first : ℕ) (byte
   pub task : isTask (tableOf (tasks .table)) first ≡ true
   pub wait : AllWait tasks jobs clock first bytes n
   pub order : InOrder (tasks .table) jobs first bytes n
-  pub active : ActiveAs (tasks .table .count) jobs (marked none (first ∷ tasksIn bytes n))
+  pub active : ActiveAs (tasks .table .count) jobs (marked none (first ∷ rowTasks bytes n))

@@ -19,7 +19,7 @@ ghost use Rattle.table.specs.Stored.{tableOf};
 ghost use Rattle.lists.specs.Marks.{none, marked};
 ghost use Rattle.jobs.specs.Kept.{releasedIn, Dated};
 ghost use Rattle.queue.specs.Asked.{Datable};
-ghost use Rattle.queue.specs.Row.{Few, tasksIn, WaitsRight, AllWait, inRow, RowDated, InOrder, ActiveAs, RunsWhole};
+ghost use Rattle.queue.specs.Row.{Few, rowTasks, WaitsRight, AllWait, inRow, RowDated, InOrder, ActiveAs, RunsWhole};
 use jobs::Job;
 use jobs::Tasks;
 use jobs::deadline;
@@ -148,7 +148,7 @@ fn in_order(
 // Marks the task whose job runs, and those whose jobs wait.
 fn marks(first: TaskNo, bytes: [u8; LISTING_BYTES], n: usize) -> [bool; PLACES]
     requires { ⌜ ((i : ℕ) → i ≤ n → inRow (first .0) bytes i ≤ most) × Few n ⌝ }
-    ensures { λ r. ⌜ r ≡ marked none (first .0 ∷ tasksIn bytes n) ⌝ }
+    ensures { λ r. ⌜ r ≡ marked none (first .0 ∷ rowTasks bytes n) ⌝ }
 {
     let mut seen = [false; PLACES];
     seen[first.0 as usize] = true;

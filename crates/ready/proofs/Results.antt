@@ -3,6 +3,7 @@ use mathlib.Core.Path.{_≡_, sym, ap₂, _∙_, fun-ext}
 use mathlib.Core.List.{List}
 use Prim.Native.Nat.{ℕ}
 use Rattle.rules.specs.State as Rules
+use Rattle.rules.specs.Calls.{metBy}
 use Rattle.lists.specs.declared.Lists.{Lists}
 use Rattle.lists.specs.declared.Who.{Who}
 use Rattle.lists.specs.Links.{Stores}
@@ -15,7 +16,7 @@ use Rattle.ready.specs.declared.Ready.{Ready}
 use Rattle.ready.specs.declared.Releveled.{Releveled}
 use Rattle.ready.specs.declared.promotion.Promoted.{Promoted}
 use Rattle.ready.specs.declared.promotion.Next.{Next}
-use Rattle.ready.specs.Keep.{readyIn, Keeps, Keeping, Becomes, Relevels, metBy}
+use Rattle.ready.specs.Keep.{readyIn, Keeps, Keeping, Becomes, Relevels}
 use Rattle.ready.specs.Promote.{frontGoes, DrainedTo, PromotedTo}
 
 -- what is kept is what is read

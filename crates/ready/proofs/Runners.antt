@@ -9,7 +9,7 @@ use Rattle.laws.specs.Words.{behind, put}
 use Rattle.laws.proofs.Bools.{both-le}
 use Rattle.rules.specs.Table.{most}
 use Rattle.rules.specs.State as Rules
-use Rattle.rules.specs.Calls.{toFront, toEnd, enter, frontOf, lowest, leaveBy, leave}
+use Rattle.rules.specs.Calls.{toFront, toEnd, metBy, enter, frontOf, lowest, leaveBy, leave}
 use Rattle.rules.proofs.Tables.{passed-to-3}
 use Rattle.table.specs.declared.Level.{Level}
 use Rattle.table.specs.declared.TaskNo.{TaskNo}
@@ -25,7 +25,7 @@ use Rattle.jobs.specs.declared.Job.{Job}
 use Rattle.jobs.specs.declared.Tasks.{Tasks}
 use Rattle.jobs.specs.Kept.{levelsAt}
 use Rattle.ready.specs.declared.Ready.{Ready}
-use Rattle.ready.specs.Keep.{Keeps, Keeping, Becomes, metBy, MayWait, Enterable}
+use Rattle.ready.specs.Keep.{Keeps, Keeping, Becomes, MayWait, Enterable}
 use Rattle.jobs.proofs.Keeping.{levels-low}
 use Rattle.lists.proofs.LowestLevel.{found-at, nothing-from, level-from}
 

@@ -2,11 +2,8 @@
 use Prim.Native.Nat.{ℕ, _-_, _≤_}
 use mathlib.Core.Path.{_≡_}
 use mathlib.Core.List.{List}
-use lib.Dec.{ltb}
-use Rattle.laws.specs.Words.{pick}
 use Rattle.rules.specs.Table.{most}
 use Rattle.rules.specs.State as Rules
-use Rattle.rules.specs.Calls.{toFront, toEnd}
 use Rattle.rules.specs.Promotion.{promoted, leavingBy}
 use Rattle.lists.specs.Links.{Absent, Stores}
 use Rattle.lists.specs.Answers.{whoIn}
@@ -39,10 +36,6 @@ pub record Relevels (new : ℕ → ℕ) (r : Ready) (after : Releveled) : Type 0
 pub record Keeping (r : Ready) : Type 0 where
   pub ready : Rules.Ready
   pub keeps : Keeps r ready
-
--- the job of task k, of level l, meets the running one, of task j and level h (the rules' `enterBy`)
-abbrev pub metBy : ℕ → ℕ → ℕ → ℕ → (ℕ → List ℕ) → Rules.Ready
-metBy k l j h lists = pick (ltb l h) (record { running = Rules.One k; lists = toFront lists h j }) (record { running = Rules.One j; lists = toEnd lists l k })
 
 -- the job of task k waits nowhere, and has a level whose list it may enter
 pub record MayWait (tasks : Tasks) (jobs : List Job) (time : ℕ) (lists : ℕ → List ℕ) (k : ℕ) : Type 0 where

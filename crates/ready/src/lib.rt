@@ -14,12 +14,12 @@
 // block.
 ghost use mathlib.Core.List.{List};
 ghost use Prim.Native.Nat.{ℕ};
-ghost use Rattle.rules.specs.Calls.{toFront, enter, leave};
+ghost use Rattle.rules.specs.Calls.{toFront, metBy, enter, leave};
 ghost use Rattle.lists.specs.Links.{Stores};
 ghost use Rattle.lists.specs.Answers.{MayEnter};
 ghost use Rattle.jobs.specs.Kept.{levelsAt};
 ghost use Rattle.ready.specs.Promote.{Promotable};
-ghost use Rattle.ready.specs.Keep.{metBy, Keeping, Keeps, Becomes, Relevels, Enterable};
+ghost use Rattle.ready.specs.Keep.{Keeping, Keeps, Becomes, Relevels, Enterable};
 use jobs::Job;
 use jobs::Tasks;
 use jobs::level_of;

@@ -29,7 +29,7 @@ use Rattle.kernel.specs.declared.start.Started as Kernel
 use Rattle.kernel.specs.Block.{viewOf}
 use Rattle.kernel.specs.Start.{Starts}
 use Rattle.kernel.proofs.Starting.{start-whole}
-use Rattle.run.specs.Run.{room, Runs, Started}
+use Rattle.run.specs.Run.{room, Runs, StartedBy}
 
 -- two numbers that are put as a line, by what they are
 pub numbers-put : {a b c d : ℕ} {text before after : List ℕ} {j : ℕ} → a ≡ c → b ≡ d → numbersText 88 c d ≡ text → Puts before 0 (numbersText 88 a b) j after → Puts before 0 text j after
@@ -62,7 +62,7 @@ module _ (s : List ℕ) where
     pub table-refused : (q : Refusal) → verdictIn (r .verdict) ≡ Failed q → numbersText 88 (numberIn (verdictIn (r .verdict))) (givenWith (verdictIn (r .verdict))) ≡ outputOf s
     table-refused q e = refusal-text (verdictIn (r .verdict)) q e (runner-table s readable ∙ sym said ∙ e)
 
-    pub table-sound : verdictIn (r .verdict) ≡ Passed → Started s (r .block)
+    pub table-sound : verdictIn (r .verdict) ≡ Passed → StartedBy s (r .block)
     table-sound e =
         let sound : verdictOf (tasksRead s) ≡ Passed = sym said ∙ e in
         let fits : length (tasksRead s) ≤ most = demand-1-table (tasksRead s) .numbers .sound .0 sound .0 .1 in
@@ -76,7 +76,7 @@ module _ (s : List ℕ) where
   pub passed-short : firstOf (runnerTests s) ≡ Passed → length s ≤ longest
   passed-short e = stream-numbers s .readable .0 (runner-stream s e) .0
 
-  module _ (b : Block) (w : Started s b) where
+  module _ (b : Block) (w : StartedBy s b) where
     pub table-started : tableOf (b .tasks .table) ≡ tasksRead s
     table-started = ap (λ (x : State). x .table) (w .view)
 

@@ -7,10 +7,9 @@ use lib.ListN.{length}
 use Rattle.laws.specs.Words.{Puts}
 use Rattle.laws.proofs.Buffers.{puts-none, puts-then, puts-as, puts-length}
 use Rattle.rules.specs.Table.{Task, most}
-use Rattle.rules.specs.Lines.{planLines}
+use Rattle.rules.specs.Lines.{planLineOf, planLines}
 use Rattle.rules.specs.Text.{planText, plansText}
 use Rattle.lines.specs.Room.{planRoom}
-use Rattle.run.specs.Run.{lineOfPlan}
 
 -- with n lines left from task k up, where so much is written, the whole comes to all lines
 pub record PlansLeft (table : List Task) (before : List ℕ) (k n : ℕ) (out : List ℕ) (at : ℕ) : Type 0 where
@@ -23,13 +22,13 @@ module _ (table : List Task) (before : List ℕ) where
   plans-all = record { text = []; put = puts-none before 0; lines = refl }
 
   module _ {k : ℕ} {out : List ℕ} {at : ℕ} where
-    pub plans-next : (n : ℕ) {out′ : List ℕ} {at′ : ℕ} → PlansLeft table before k (suc n) out at → Puts out at (planText (lineOfPlan table k)) at′ out′ → PlansLeft table before (suc k) n out′ at′
+    pub plans-next : (n : ℕ) {out′ : List ℕ} {at′ : ℕ} → PlansLeft table before k (suc n) out at → Puts out at (planText (planLineOf table k)) at′ out′ → PlansLeft table before (suc k) n out′ at′
     unfolding planLines plansText
     plans-next n l p =
         record {
-          text = l .text ++ planText (lineOfPlan table k);
+          text = l .text ++ planText (planLineOf table k);
           put = puts-then (l .put) p;
-          lines = append-assoc (l .text) (planText (lineOfPlan table k)) _ ∙ l .lines;
+          lines = append-assoc (l .text) (planText (planLineOf table k)) _ ∙ l .lines;
         }
 
     pub plans-end : PlansLeft table before k 0 out at → Puts before 0 (plansText (planLines table (length table) 1)) at out
@@ -50,7 +49,7 @@ module _ (table : List Task) (before : List ℕ) where
       record { low = omega arith; high = omega arith; near = omega arith; same = refl; left = rw e plans-all }
 
   module _ {k : ℕ} {out : List ℕ} {at : ℕ} (p : Planning k out at) where
-    pub planning-next : k ≤ length table → {out′ : List ℕ} {at′ : ℕ} → Puts out at (planText (lineOfPlan table k)) at′ out′ → at′ ≤ at + planRoom most → Planning (k + 1) out′ at′
+    pub planning-next : k ≤ length table → {out′ : List ℕ} {at′ : ℕ} → Puts out at (planText (planLineOf table k)) at′ out′ → at′ ≤ at + planRoom most → Planning (k + 1) out′ at′
     planning-next h {out′} {at′} w l =
         let e : suc (length table) - k ≡ suc (length table - k) = omega arith in
         let f : suc (length table) - (k + 1) ≡ length table - k = omega arith in

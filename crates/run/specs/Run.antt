@@ -7,12 +7,11 @@ use lib.Dec.{leb}
 use lib.ListN.{length}
 use Rattle.laws.specs.Words.{Puts}
 use Rattle.rules.specs.Numbers.{Passed, firstOf}
-use Rattle.rules.specs.Table.{Task, isTask}
-use Rattle.rules.specs.Levels.{firstLevel, planOf}
+use Rattle.rules.specs.Table.{isTask}
 use Rattle.rules.specs.Calls.{Call, Release, Answer, Accepted, Margin, movesIn, startOf, Step, stepOf}
 use Rattle.rules.specs.State.{Running}
 use Rattle.rules.specs.Histories.{eventsOf, totalOf, boundOf, boundBy}
-use Rattle.rules.specs.Lines.{PlanLine, lineOf, eventLines}
+use Rattle.rules.specs.Lines.{lineOf, eventLines}
 use Rattle.rules.specs.Text.{eventText, eventsText}
 use Rattle.rules.specs.Records.{tasksRead, runnerTests}
 use Rattle.rules.specs.Runner.{outputOf}
@@ -42,7 +41,7 @@ abbrev pub Runs : List ℕ → List ℕ → ℕ → List ℕ → Type 0
 Runs s before r after = RunsBy s before r after (leb room (length before))
 
 -- the tests passed, and the block is that which the stream's table starts, "with last reading 0"
-pub record Started (s : List ℕ) (b : Block) : Type 0 where
+pub record StartedBy (s : List ℕ) (b : Block) : Type 0 where
   pub passed : firstOf (runnerTests s) ≡ Passed
   pub whole : Whole b
   pub view : viewOf b ≡ startOf (tasksRead s) 0
@@ -57,9 +56,6 @@ pub record Laid (tasks : Tasks) : Type 0 where
 pub record LaidTask (tasks : Tasks) (k : ℕ) : Type 0 where
   pub laid : Laid tasks
   pub task : isTask (tableOf (tasks .table)) k ≡ true
-
-abbrev pub lineOfPlan : List Task → ℕ → PlanLine
-lineOfPlan table k = record { task = k; level = firstLevel table k; points = planOf table k }
 
 -- ---- E lines
 

@@ -16,7 +16,7 @@ ghost use Rattle.laws.specs.Words.{Puts};
 ghost use Rattle.rules.specs.Numbers.{Passed, longest};
 ghost use Rattle.rules.specs.Records.{streamOf};
 ghost use Rattle.rules.specs.Runner.{outputOf};
-ghost use Rattle.run.specs.Run.{room, Runs, Started};
+ghost use Rattle.run.specs.Run.{room, Runs, StartedBy};
 use events::events;
 use kernel::Block;
 use kernel::Verdict;
@@ -66,7 +66,7 @@ fn report(stream: &[u8], out: &mut [u8]) -> usize
 
 // The lines of a readable stream whose table is sound; the block is as it started.
 fn lines(stream: &[u8], block: Block, out: &mut [u8]) -> usize
-    requires { ⌜ Started (now stream) block × (room ≤ length (now out)) ⌝ }
+    requires { ⌜ StartedBy (now stream) block × (room ≤ length (now out)) ⌝ }
     ensures { λ r. ⌜ Puts (now (out .entry)) 0 (outputOf (now (stream .entry))) r (now (out .exit)) × (r ≤ room) ⌝ }
 {
     let tasks = block.tasks;

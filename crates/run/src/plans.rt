@@ -3,11 +3,11 @@ ghost use Prim.Native.Nat.{_+_, _*_, _≤_};
 ghost use lib.ListN.{length};
 ghost use Rattle.laws.specs.Words.{Puts};
 ghost use Rattle.rules.specs.Table.{most};
-ghost use Rattle.rules.specs.Lines.{planLines};
+ghost use Rattle.rules.specs.Lines.{planLineOf, planLines};
 ghost use Rattle.rules.specs.Text.{planText, plansText};
 ghost use Rattle.table.specs.Stored.{tableOf};
 ghost use Rattle.lines.specs.Room.{planRoom};
-ghost use Rattle.run.specs.Run.{lineOfPlan, Laid, LaidTask};
+ghost use Rattle.run.specs.Run.{Laid, LaidTask};
 use jobs::Tasks;
 use kernel::TaskNo;
 use levels::first_level;
@@ -17,7 +17,7 @@ use lines::plan_line;
 // The line of one task.
 fn task_line(tasks: Tasks, task: TaskNo, out: &mut [u8], at: usize) -> usize
     requires { ⌜ LaidTask tasks (task .0) × (at + planRoom most ≤ length (now out)) ⌝ }
-    ensures { λ r. ⌜ Puts (now (out .entry)) at (planText (lineOfPlan (tableOf (tasks .table)) (task .0))) r (now (out .exit)) × (r ≤ at + planRoom most) ⌝ }
+    ensures { λ r. ⌜ Puts (now (out .entry)) at (planText (planLineOf (tableOf (tasks .table)) (task .0))) r (now (out .exit)) × (r ≤ at + planRoom most) ⌝ }
 {
     let table = tasks.table;
     let i = task.0 as usize;

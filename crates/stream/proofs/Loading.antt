@@ -18,9 +18,9 @@ use Rattle.rules.proofs.Streams.{end-at, read-within, tasks-end, tasks-bad, tas
 use Rattle.rules.proofs.Tables.{demand-1-table}
 use Rattle.table.specs.declared.Table.{Table}
 use Rattle.table.specs.declared.Task.{Task}
-use Rattle.table.specs.Stored.{taskOf, tableOf}
+use Rattle.table.specs.Stored.{taskOf, noEntry, tableOf}
 use Rattle.table.proofs.Tests.{table-length, table-is}
-use Rattle.stream.specs.Load.{storedAs, noTask, tableIn}
+use Rattle.stream.specs.Load.{storedAs, tableIn}
 
 -- ---- one task more
 
@@ -40,23 +40,23 @@ module _ (ts : List Rules.Task) (x : Task) where
     unfolding tableIn
     same-count = ap (λ (y : Table). y .count) e ∙ sym (length-map ts storedAs)
 
-    is-more : tasks ≡ padded noTask most (map storedAs ts ++ (x ∷ [])) → IsMore
+    is-more : tasks ≡ padded noEntry most (map storedAs ts ++ (x ∷ [])) → IsMore
     unfolding tableIn
     is-more p =
         ap₂ (λ (n : ℕ) (xs : List Task). record { count = n; tasks = xs }) (ap (λ (y : Table). y .count + 1) e ∙ count-more)
-        (p ∙ ap (padded noTask most) (sym map-more))
+        (p ∙ ap (padded noEntry most) (sym map-more))
 
     pub added-kept : table .count < most → tasks ≡ set (table .tasks) (table .count) x → IsMore
     unfolding tableIn
     added-kept h t =
         is-more
         (t ∙ ap₂ (λ (xs : List Task) (n : ℕ). set xs n x) (ap (λ (y : Table). y .tasks) e) same-count
-        ∙ padded-next noTask most (map storedAs ts) x (omega (arith, same-count)))
+        ∙ padded-next noEntry most (map storedAs ts) x (omega (arith, same-count)))
 
     pub added-past : most ≤ table .count → tasks ≡ table .tasks → IsMore
     unfolding tableIn
     added-past h t =
-        is-more (t ∙ ap (λ (y : Table). y .tasks) e ∙ sym (padded-full noTask most (map storedAs ts) (x ∷ []) (omega (arith, same-count))))
+        is-more (t ∙ ap (λ (y : Table). y .tasks) e ∙ sym (padded-full noEntry most (map storedAs ts) (x ∷ []) (omega (arith, same-count))))
 
 -- ---- read back
 
@@ -71,13 +71,13 @@ module _ (ts : List Rules.Task) where
 
   pub table-places : length (tableIn ts .tasks) ≡ most
   unfolding tableIn
-  table-places = padded-length noTask most (map storedAs ts)
+  table-places = padded-length noEntry most (map storedAs ts)
 
   pub table-same : length ts ≤ most → tableOf (tableIn ts) ≡ ts
   unfolding tableIn
   table-same h =
       table-is (tableIn ts) table-places h
-      ∙ ap (map taskOf) (ap (λ (n : ℕ). take n (tableIn ts .tasks)) (sym (length-map ts storedAs)) ∙ padded-front noTask most (map storedAs ts) (omega (arith, length-map ts storedAs)))
+      ∙ ap (map taskOf) (ap (λ (n : ℕ). take n (tableIn ts .tasks)) (sym (length-map ts storedAs)) ∙ padded-front noEntry most (map storedAs ts) (omega (arith, length-map ts storedAs)))
       ∙ tasks-back ts
 
   -- tasks that there is no room for are counted, and a table of so many is refused for their number
@@ -101,7 +101,7 @@ pub record Loaded (s : List ℕ) (at : ℕ) (table : Table) : Type 0 where
   pub all : ahead ++ tasksIn (itemsFrom s at) ≡ tasksRead s
 
 module _ (s : List ℕ) where
-  pub loaded-start : Loaded s 0 (record { count = 0; tasks = replicate most noTask })
+  pub loaded-start : Loaded s 0 (record { count = 0; tasks = replicate most noEntry })
   unfolding tableIn
   loaded-start = record { ahead = []; stored = refl; few = omega arith; all = refl }
 

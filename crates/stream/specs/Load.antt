@@ -4,14 +4,12 @@ use lib.ListN.{length, take, replicate}
 use Rattle.rules.specs.Table as Rules
 use Rattle.table.specs.declared.Table.{Table}
 use Rattle.table.specs.declared.Task.{Task}
+use Rattle.table.specs.Stored.{noEntry}
 use Rattle.rules.specs.Table.{most}
 
 abbrev pub storedAs : Rules.Task → Task
 storedAs x = record { c = x .c; d = x .d; t = x .t }
 
-abbrev pub noTask : Task
-noTask = record { c = 0; d = 0; t = 0 }
-
 -- how many there are, and the first of them, as many as there is room for; zeros behind them
 unfoldable pub tableIn : List Rules.Task → Table
-tableIn ts = record { count = length ts; tasks = take most (map storedAs ts ++ replicate most noTask) }
+tableIn ts = record { count = length ts; tasks = take most (map storedAs ts ++ replicate most noEntry) }

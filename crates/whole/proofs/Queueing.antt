@@ -32,7 +32,7 @@ use Rattle.jobs.specs.Kept.{jobAt, releasedIn, activeIn}
 use Rattle.jobs.proofs.Keeping.{task-asked}
 use Rattle.ready.specs.declared.Ready.{Ready}
 use Rattle.ready.specs.Keep.{readyIn}
-use Rattle.queue.specs.Row.{byteLevel, byteTask, tasksIn, inRow, WaitsRight, ActiveAs, RunsWhole}
+use Rattle.queue.specs.Row.{byteLevel, byteTask, rowTasks, inRow, WaitsRight, ActiveAs, RunsWhole}
 use Rattle.whole.specs.Whole.{viewIn, Whole}
 use Rattle.whole.specs.Parts.{Tested}
 use Rattle.whole.proofs.Wholeness.{whole-state, state-whole}
@@ -82,17 +82,17 @@ module _ {tasks : Tasks} {jobs : List Job} {ready : Ready} {clock : ℕ} (t : Te
 
 module _ {tasks : Tasks} {jobs : List Job} {ready : Ready} {clock first n : ℕ} {bytes : List ℕ} (t : Tested tasks jobs ready clock)
     (run : whoIn (ready .running) ≡ One first) (r : Read (listAt (ready .lists)) bytes n) (long : length (tasks .table .tasks) ≡ most) where
-  everyone-row : everyone (readyIn ready) ≡ first ∷ tasksIn bytes n
+  everyone-row : everyone (readyIn ready) ≡ first ∷ rowTasks bytes n
   everyone-row = ap₂ (λ (x : Running) (b : List ℕ). runs x ++ b) run (sym (r .tasks))
 
-  row-at : (i : ℕ) → i ≤ n → getD (first ∷ tasksIn bytes n) i 0 ≡ inRow first bytes i
+  row-at : (i : ℕ) → i ≤ n → getD (first ∷ rowTasks bytes n) i 0 ≡ inRow first bytes i
   row-at zero h = refl
   row-at (suc i) h = tasks-at bytes n i h
 
-  read-in : (k : ℕ) → In k (tasksIn bytes n) → (l : ℕ) × In k (listAt (ready .lists) l)
+  read-in : (k : ℕ) → In k (rowTasks bytes n) → (l : ℕ) × In k (listAt (ready .lists) l)
   read-in k m = all-in (listAt (ready .lists)) k (subst (In k) (r .tasks) m)
 
-  in-read : (k : ℕ) → In k (listing (listAt (ready .lists))) → In k (tasksIn bytes n)
+  in-read : (k : ℕ) → In k (listing (listAt (ready .lists))) → In k (rowTasks bytes n)
   in-read k m = subst (In k) (sym (r .tasks)) m
 
   module _ (w : RunsWhole tasks jobs clock first bytes n) where
@@ -102,26 +102,26 @@ module _ {tasks : Tasks} {jobs : List Job} {ready : Ready} {clock first n : ℕ}
         go : (l k : ℕ) → (i : ℕ) × (i < n) × (l ≡ byteLevel bytes i) × (k ≡ byteTask bytes i) → WaitsRight tasks jobs clock first l k
         go l k (i, h, e, f) = rw (e, f) (w .wait i h)
 
-    row-task : (k : ℕ) → In k (first ∷ tasksIn bytes n) → isTask (tableOf (tasks .table)) k ≡ true
+    row-task : (k : ℕ) → In k (first ∷ rowTasks bytes n) → isTask (tableOf (tasks .table)) k ≡ true
     row-task k (inl e) = rw e (w .task)
     row-task k (inr m) = let (l, i) = read-in k m in waits-right l k i .task
 
-    row-once : Once (first ∷ tasksIn bytes n)
+    row-once : Once (first ∷ rowTasks bytes n)
     row-once = (λ m. let (l, i) = read-in first m in waits-right l first i .other refl, subst Once (sym (r .tasks)) (listing-once (waits-held t)))
 
-    row-order : Sorted (Leads tasks jobs) (first ∷ tasksIn bytes n)
+    row-order : Sorted (Leads tasks jobs) (first ∷ rowTasks bytes n)
     row-order =
         chain-sorted (Leads tasks jobs) (lead-through (tableOf (tasks .table)) (releasedIn (tasks .table) jobs)) 0
-        (first ∷ tasksIn bytes n)
+        (first ∷ rowTasks bytes n)
         (λ i h. let b : i < n = omega (arith, tasks-length bytes n) in rw (row-at i (omega arith), row-at (suc i) b) (w .order i b))
 
-    row-counted : (k : ℕ) → count (eqb k) (first ∷ tasksIn bytes n) ≡ digit (activeIn (tasks .table) jobs k)
-    row-counted = marks-once t long (first ∷ tasksIn bytes n) row-task row-once (w .active)
+    row-counted : (k : ℕ) → count (eqb k) (first ∷ rowTasks bytes n) ≡ digit (activeIn (tasks .table) jobs k)
+    row-counted = marks-once t long (first ∷ rowTasks bytes n) row-task row-once (w .active)
 
-    row-active : (k : ℕ) → In k (first ∷ tasksIn bytes n) → ActiveTask (viewIn tasks jobs ready clock 0) k
+    row-active : (k : ℕ) → In k (first ∷ rowTasks bytes n) → ActiveTask (viewIn tasks jobs ready clock 0) k
     row-active k m =
         record {
-          active = digit-true (activeIn (tasks .table) jobs k) (omega (arith, in-count k (first ∷ tasksIn bytes n) m, row-counted k));
+          active = digit-true (activeIn (tasks .table) jobs k) (omega (arith, in-count k (first ∷ rowTasks bytes n) m, row-counted k));
           task = row-task k m;
         }
 
@@ -144,25 +144,25 @@ module _ {tasks : Tasks} {jobs : List Job} {ready : Ready} {clock first n : ℕ}
         (t .datable .tasks-whole .copy) (t .links)
 
   module _ (q : Whole tasks jobs ready clock) where
-    queue-order : Sorted (Leads tasks jobs) (first ∷ tasksIn bytes n)
+    queue-order : Sorted (Leads tasks jobs) (first ∷ rowTasks bytes n)
     queue-order = subst (Sorted (Leads tasks jobs)) everyone-row (whole-queue (viewIn tasks jobs ready clock 0) (whole-state q 0) .order)
 
-    queue-counted : (k : ℕ) → count (eqb k) (first ∷ tasksIn bytes n) ≡ digit (activeIn (tasks .table) jobs k)
+    queue-counted : (k : ℕ) → count (eqb k) (first ∷ rowTasks bytes n) ≡ digit (activeIn (tasks .table) jobs k)
     queue-counted k = ap (count (eqb k)) (sym everyone-row) ∙ q .once k
 
     -- the running one does not wait
-    queue-apart : In first (tasksIn bytes n) → ⊥
+    queue-apart : In first (rowTasks bytes n) → ⊥
     queue-apart m =
         omega (
           arith,
-          count-cons (eqb first) first (tasksIn bytes n),
+          count-cons (eqb first) first (rowTasks bytes n),
           ap digit (eq-eqb first first refl),
-          in-count first (tasksIn bytes n) m,
+          in-count first (rowTasks bytes n) m,
           queue-counted first,
           digit-le (activeIn (tasks .table) jobs first),
         )
 
-    queue-task : (k : ℕ) → In k (first ∷ tasksIn bytes n) → isTask (tableOf (tasks .table)) k ≡ true
+    queue-task : (k : ℕ) → In k (first ∷ rowTasks bytes n) → isTask (tableOf (tasks .table)) k ≡ true
     queue-task k (inl e) = q .runner k (run ∙ ap One (sym e)) .task
     queue-task k (inr m) = let (l, i) = read-in k m in q .waiter l k i .task
 
@@ -179,8 +179,8 @@ module _ {tasks : Tasks} {jobs : List Job} {ready : Ready} {clock first n : ℕ}
               };
           order = λ i h.
               rw (← row-at i (omega arith), ← row-at (suc i) h)
-              (sorted-chain (Leads tasks jobs) 0 (first ∷ tasksIn bytes n) queue-order i (omega (arith, tasks-length bytes n)));
-          active = once-marks t long (first ∷ tasksIn bytes n) queue-task queue-counted;
+              (sorted-chain (Leads tasks jobs) 0 (first ∷ rowTasks bytes n) queue-order i (omega (arith, tasks-length bytes n)));
+          active = once-marks t long (first ∷ rowTasks bytes n) queue-task queue-counted;
         }
 
 -- ---- nobody runs

@@ -12,28 +12,28 @@ use Rattle.laws.proofs.Buffers.{puts-written}
 use Rattle.laws.proofs.Orders.{long-none}
 use Rattle.rules.specs.Table.{most}
 use Rattle.rules.specs.State.{listing}
-use Rattle.rules.specs.Listing.{pairsOf, bytesOf}
+use Rattle.rules.specs.Listing.{pairsOf, listingBytes}
 use Rattle.rules.proofs.Listings.{bytes-twice}
 use Rattle.lists.specs.declared.Lists.{Lists}
 use Rattle.lists.specs.Links.{Numbered, Waits, Stores}
 use Rattle.lists.proofs.Together.{listing-few}
-use Rattle.queue.specs.Row.{byteLevel, byteTask, tasksIn}
+use Rattle.queue.specs.Row.{byteLevel, byteTask, rowTasks}
 
 -- ---- the tasks of the first n
 
-pub tasks-length : (bytes : List ℕ) (n : ℕ) → length (tasksIn bytes n) ≡ n
-unfolding tasksIn
+pub tasks-length : (bytes : List ℕ) (n : ℕ) → length (rowTasks bytes n) ≡ n
+unfolding rowTasks
 tasks-length bytes zero = refl
-tasks-length bytes (suc n) = omega (arith, length-append (tasksIn bytes n) (byteTask bytes n ∷ []), tasks-length bytes n)
+tasks-length bytes (suc n) = omega (arith, length-append (rowTasks bytes n) (byteTask bytes n ∷ []), tasks-length bytes n)
 
-pub tasks-at : (bytes : List ℕ) (n i : ℕ) → i < n → getD (tasksIn bytes n) i 0 ≡ byteTask bytes i
-unfolding tasksIn
+pub tasks-at : (bytes : List ℕ) (n i : ℕ) → i < n → getD (rowTasks bytes n) i 0 ≡ byteTask bytes i
+unfolding rowTasks
 tasks-at bytes zero i h = let z : ⊥ = omega arith in absurd z
 tasks-at bytes (suc n) i h = go (ℕ-discrete i n) (tasks-at bytes n i)
   where
-    go : Dec (i ≡ n) → (i < n → getD (tasksIn bytes n) i 0 ≡ byteTask bytes i) → getD (tasksIn bytes n ++ byteTask bytes n ∷ []) i 0 ≡ byteTask bytes i
-    go (yes e) f = getD-at (tasksIn bytes n) (byteTask bytes n) [] 0 i (tasks-length bytes n ∙ sym e) ∙ ap (byteTask bytes) (sym e)
-    go (no d) f = List·getD-append (tasksIn bytes n) (byteTask bytes n ∷ []) 0 i (omega (arith, tasks-length bytes n)) ∙ f (omega arith)
+    go : Dec (i ≡ n) → (i < n → getD (rowTasks bytes n) i 0 ≡ byteTask bytes i) → getD (rowTasks bytes n ++ byteTask bytes n ∷ []) i 0 ≡ byteTask bytes i
+    go (yes e) f = getD-at (rowTasks bytes n) (byteTask bytes n) [] 0 i (tasks-length bytes n ∙ sym e) ∙ ap (byteTask bytes) (sym e)
+    go (no d) f = List·getD-append (rowTasks bytes n) (byteTask bytes n ∷ []) 0 i (omega (arith, tasks-length bytes n)) ∙ f (omega arith)
 
 -- ---- bytes that begin with the pairs of these tasks
 
@@ -103,39 +103,39 @@ spells-joined ls rest (suc n) a =
 -- ---- the listing
 
 module _ {ls : ℕ → List ℕ} (w : Waits ls) where
-  spells-listing : (rest : List ℕ) → Spells (λ l k. In k (ls l)) (bytesOf ls ++ rest) (listing ls)
-  unfolding listing bytesOf
+  spells-listing : (rest : List ℕ) → Spells (λ l k. In k (ls l)) (listingBytes ls ++ rest) (listing ls)
+  unfolding listing listingBytes
   spells-listing rest =
       spells-same (spells-joined ls rest most 1) (λ l k. In k (ls l)) (λ l k p. p .2)
       (λ l k m. let n : Numbered l = w .level l k m in (n .low, omega (arith, n .high), m))
 
-pub listing-room : {s : Lists} {ls : ℕ → List ℕ} → Stores s ls → length (bytesOf ls) ≤ 2 * most
+pub listing-room : {s : Lists} {ls : ℕ → List ℕ} → Stores s ls → length (listingBytes ls) ≤ 2 * most
 listing-room {ls = ls} st = omega (arith, bytes-twice ls, listing-few (st .waits))
 
 -- what is read of a listing: n pairs, the waiting jobs and the numbers of their lists
 pub record Read (ls : ℕ → List ℕ) (bytes : List ℕ) (n : ℕ) : Type 0 where
   pub size : n ≡ length (listing ls)
   pub few : n ≤ most
-  pub tasks : tasksIn bytes n ≡ listing ls
+  pub tasks : rowTasks bytes n ≡ listing ls
   pub pair : (i : ℕ) → i < n → In (byteTask bytes i) (ls (byteLevel bytes i))
   pub every : (l k : ℕ) → In k (ls l) → (i : ℕ) × (i < n) × (l ≡ byteLevel bytes i) × (k ≡ byteTask bytes i)
 
-pub listing-read : {s : Lists} {ls : ℕ → List ℕ} → Stores s ls → (before after : List ℕ) (end : ℕ) → length (bytesOf ls) ≤ length before
-    → Puts before 0 (bytesOf ls) end after → Read ls after (end / 2)
+pub listing-read : {s : Lists} {ls : ℕ → List ℕ} → Stores s ls → (before after : List ℕ) (end : ℕ) → length (listingBytes ls) ≤ length before
+    → Puts before 0 (listingBytes ls) end after → Read ls after (end / 2)
 listing-read {ls = ls} st before after end room w =
     let half : end / 2 ≡ length (listing ls) = omega (arith, w .size, bytes-twice ls) in
-    rw (half, puts-written room w) (read (drop (length (bytesOf ls)) before))
+    rw (half, puts-written room w) (read (drop (length (listingBytes ls)) before))
   where
-    read : (rest : List ℕ) → Read ls (bytesOf ls ++ rest) (length (listing ls))
+    read : (rest : List ℕ) → Read ls (listingBytes ls ++ rest) (length (listing ls))
     read rest =
         let p = spells-listing (st .waits) rest in
-        let bytes : List ℕ = bytesOf ls ++ rest in
+        let bytes : List ℕ = listingBytes ls ++ rest in
         let n : ℕ = length (listing ls) in
         record {
           size = refl;
           few = listing-few (st .waits);
           tasks =
-              ext-getD 0 (tasksIn bytes n) (listing ls) (tasks-length bytes n)
+              ext-getD 0 (rowTasks bytes n) (listing ls) (tasks-length bytes n)
               (λ i h. let b : i < n = omega (arith, tasks-length bytes n) in tasks-at bytes n i b ∙ p .task i b);
           pair = p .pair;
           every = p .every;
@@ -143,7 +143,7 @@ listing-read {ls = ls} st before after end room w =
 
 -- ---- nobody waits
 
-module _ (ls : ℕ → List ℕ) {before after : List ℕ} {end : ℕ} (listed : Puts before 0 (bytesOf ls) end after) where
+module _ (ls : ℕ → List ℕ) {before after : List ℕ} {end : ℕ} (listed : Puts before 0 (listingBytes ls) end after) where
   pub none-listed : end ≡ 0 → listing ls ≡ []
   none-listed e = long-none (listing ls) (omega (arith, listed .size, bytes-twice ls))
 

@@ -1,4 +1,4 @@
--- What a whole block's parts are, and its view: a whole state, and back. Assumes nothing.
+-- A whole block's view is a whole state, and back. Assumes nothing.
 use mathlib.Core.Path.{_≡_}
 use mathlib.Core.List.{List}
 use Prim.Native.Nat.{ℕ}
@@ -11,28 +11,19 @@ use Rattle.lists.proofs.Walks.{lists-held}
 use Rattle.jobs.specs.declared.Job.{Job}
 use Rattle.jobs.specs.declared.Tasks.{Tasks}
 use Rattle.ready.specs.declared.Ready.{Ready}
-use Rattle.queue.specs.Asked.{TasksWhole, JobsWhole}
 use Rattle.whole.specs.Whole.{viewIn, Whole}
 
 module _ {tasks : Tasks} {jobs : List Job} {ready : Ready} {clock : ℕ} where
-  pub whole-tasks : Whole tasks jobs ready clock → TasksWhole tasks
-  whole-tasks w = record { table = w .table; copy = w .copy }
-
-  pub whole-jobs : Whole tasks jobs ready clock → JobsWhole (tasks .table) jobs clock
-  whole-jobs w = record { known = w .known; past = w .past }
-
-  -- ---- the view
-
   -- the state that a whole block holds is whole
   pub whole-state : Whole tasks jobs ready clock → (reading : ℕ) → Rules.Whole (viewIn tasks jobs ready clock reading)
   whole-state w reading =
       record {
-        table = w .table;
+        table = w .tasks-whole .table;
         runner = λ k e. let h = w .runner k e in record { active = h .active; task = h .task };
         waiter = λ l k m. let h = w .waiter l k m in record { active = h .active; task = h .task };
         clock = w .ticks;
-        known = w .known;
-        past = w .past;
+        known = w .jobs-whole .known;
+        past = w .jobs-whole .past;
         once = w .once;
         place = w .place;
         order = w .order;
@@ -45,13 +36,11 @@ module _ {tasks : Tasks} {jobs : List Job} {ready : Ready} {clock : ℕ} where
       → Holds (ready .lists) → Whole tasks jobs ready clock
   state-whole w copy links =
       record {
-        table = w .table;
-        copy = copy;
+        tasks-whole = record { table = w .table; copy = copy };
         runner = λ k e. let h = w .runner k e in record { active = h .active; task = h .task };
         waiter = λ l k m. let h = w .waiter l k m in record { active = h .active; task = h .task };
         ticks = w .clock;
-        known = w .known;
-        past = w .past;
+        jobs-whole = record { known = w .known; past = w .past };
         once = w .once;
         links = links;
         place = w .place;

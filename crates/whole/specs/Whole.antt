@@ -1,17 +1,13 @@
 -- "A block is whole when", condition by condition, in the paper's order and words, over the block's fields. Its last reading may be anything.
 use Prim.Native.Nat.{ℕ, suc, _≤_, _<_}
 use mathlib.Core.Path.{_≡_}
-use mathlib.Core.Bool.{true}
 use mathlib.Core.List.{List, []}
 use lib.Dec.{eqb}
-use lib.ListN.{take}
 use Rattle.laws.specs.Words.{digit, count, In, Sorted}
 use Rattle.laws.specs.Bits.{bitAt}
-use Rattle.rules.specs.Numbers.{Passed, firstOf}
-use Rattle.rules.specs.Table.{most, testsTo3}
-use Rattle.rules.specs.Levels.{risingOf}
+use Rattle.rules.specs.Table.{most}
 use Rattle.rules.specs.Clock.{lastTick}
-use Rattle.rules.specs.State.{Nobody, One, At, timeOf, State, listing, everyone, MayLead, ActiveTask}
+use Rattle.rules.specs.State.{Nobody, One, State, listing, everyone, MayLead, ActiveTask}
 use Rattle.table.specs.Stored.{tableOf}
 use Rattle.lists.specs.Links.{occupied}
 use Rattle.lists.specs.Answers.{whoIn, Holds}
@@ -21,6 +17,7 @@ use Rattle.jobs.specs.declared.Tasks.{Tasks}
 use Rattle.jobs.specs.Kept.{releasedIn, activeIn, levelsAt}
 use Rattle.ready.specs.declared.Ready.{Ready}
 use Rattle.ready.specs.Keep.{readyIn}
+use Rattle.queue.specs.Asked.{TasksWhole, JobsWhole}
 
 -- a block's parts as a state of the rules
 abbrev pub viewIn : Tasks → List Job → Ready → ℕ → ℕ → State
@@ -35,18 +32,15 @@ viewIn tasks jobs ready clock reading =
     }
 
 pub record Whole (tasks : Tasks) (jobs : List Job) (ready : Ready) (clock : ℕ) : Type 0 where
-  -- "its table passes tests 1 to 3"
-  pub table : firstOf (testsTo3 (tableOf (tasks .table))) ≡ Passed
-  -- "its rising copy of the deadlines agrees with the table"
-  pub copy : take (tasks .table .count) (tasks .rising) ≡ risingOf (tableOf (tasks .table))
+  -- "its table passes tests 1 to 3; its rising copy of the deadlines agrees with the table"
+  pub tasks-whole : TasksWhole tasks
   -- "the running job and all waiting ones are active jobs of tasks in the table"
   pub runner : (k : ℕ) → whoIn (ready .running) ≡ One k → ActiveTask (viewIn tasks jobs ready clock 0) k
   pub waiter : (l k : ℕ) → In k (listAt (ready .lists) l) → ActiveTask (viewIn tasks jobs ready clock 0) k
   -- "its clock is at most 2^40"
   pub ticks : clock ≤ lastTick
   -- "every active job has a release time, and no release time lies after the clock"
-  pub known : (k : ℕ) → activeIn (tasks .table) jobs k ≡ true → releasedIn (tasks .table) jobs k ≡ At (timeOf (releasedIn (tasks .table) jobs k))
-  pub past : (k : ℕ) → timeOf (releasedIn (tasks .table) jobs k) ≤ clock
+  pub jobs-whole : JobsWhole (tasks .table) jobs clock
   -- "every active job either runs or waits, once": and whatever the links and the ends of lists name is true
   pub once : (k : ℕ) → count (eqb k) (everyone (readyIn ready)) ≡ digit (activeIn (tasks .table) jobs k)
   pub links : Holds (ready .lists)

@@ -3,13 +3,13 @@ use Prim.Native.Nat.{suc, _-_, _≤_}
 use native.Mathlib.Omega.{arith}
 use borrow.Author.Needs.{needs}
 use Rattle.lists.specs.Marks.{marked}
-use Rattle.queue.specs.Row.{tasksIn}
+use Rattle.queue.specs.Row.{rowTasks}
 use Rattle.queue.proofs.Rows.{marked-next}
 use Rattle.queue.proofs.marks.Statement.{statement}
 use Rattle.queue.proofs.marks.Tie as tie
 
 abbrev Inv-loop : tie.InvT-loop
-Inv-loop n bytes seen₀ i₀ seen i = (i ≤ n) × (seen ≡ marked seen₀ (tasksIn bytes i))
+Inv-loop n bytes seen₀ i₀ seen i = (i ≤ n) × (seen ≡ marked seen₀ (rowTasks bytes i))
 
 abbrev μ-loop : tie.MeasureT-loop
 μ-loop n bytes seen₀ i₀ seen i = n - i
@@ -21,7 +21,7 @@ array-write-seen : tie.Need-array-write-seen Inv-loop μ-loop
 array-write-seen c = omega (arith, c .before .pre .0 0 (omega arith))
 
 loop-holds : tie.Need-loop-holds Inv-loop μ-loop
-unfolding marked tasksIn
+unfolding marked rowTasks
 loop-holds c = (search needs, refl)
 
 mul-seen : tie.Need-mul-seen Inv-loop μ-loop

@@ -11,7 +11,6 @@ use Rattle.lists.specs.declared.Stored.{Stored}
 use Rattle.lists.specs.Answers.{listsOf, Holds}
 use Rattle.queue.specs.Asked.{TasksWhole}
 use Rattle.whole.specs.Parts.{Tested}
-use Rattle.whole.proofs.Wholeness.{whole-tasks, whole-jobs}
 use Rattle.whole.proofs.is_whole.Statement.{statement}
 use Rattle.whole.proofs.is_whole.Tie as tie
 
@@ -41,7 +40,7 @@ tasks-whole-requires : tie.Need-tasks-whole-requires
 tasks-whole-requires c κs = search needs
 
 returns : tie.Need-returns
-returns c = λ w. told-false _ (c .before .tasks-whole .result) (c .if1 .taken) (c .before .tasks-whole .ensures) (whole-tasks w)
+returns c = λ w. told-false _ (c .before .tasks-whole .result) (c .if1 .taken) (c .before .tasks-whole .ensures) (w .tasks-whole)
 
 returns-2 : tie.Need-returns-2
 returns-2 c = search needs
@@ -50,7 +49,7 @@ jobs-whole-requires : tie.Need-jobs-whole-requires
 jobs-whole-requires c κs = few-passed _ (long (c .before .before .before .before)) (tasks-told (c .before .before) .table)
 
 returns-3 : tie.Need-returns-3
-returns-3 c = λ w. told-false _ (c .before .jobs-whole .result) (c .if3 .taken) (c .before .jobs-whole .ensures) (whole-jobs w)
+returns-3 c = λ w. told-false _ (c .before .jobs-whole .result) (c .if3 .taken) (c .before .jobs-whole .ensures) (w .jobs-whole)
 
 stored-requires : tie.Need-stored-requires
 stored-requires c κs = search needs

@@ -7,7 +7,7 @@ use Rattle.laws.specs.Words.{Puts}
 use Rattle.laws.proofs.Arrays.{long-map}
 use Rattle.laws.proofs.Bools.{decides-same}
 use Rattle.rules.specs.Table.{most}
-use Rattle.rules.specs.Listing.{bytesOf}
+use Rattle.rules.specs.Listing.{listingBytes}
 use Rattle.table.proofs.Tests.{few-passed}
 use Rattle.lists.specs.Answers.{whoIn}
 use Rattle.lists.specs.Held.{listAt}
@@ -20,7 +20,7 @@ use Rattle.whole.proofs.queue_whole.Tie as tie
 long : (c : tie.Start) → length (c .args .tasks .table .tasks) ≡ most
 long c = search (needs, long-map)
 
-listed : (c : tie.After-list-all) → Puts (replicate (2 * most) 0) 0 (bytesOf (listAt (c .before .before .before .args .ready .lists))) (c .list-all .result) (c .list-all .last .1 .0)
+listed : (c : tie.After-list-all) → Puts (replicate (2 * most) 0) 0 (listingBytes (listAt (c .before .before .before .args .ready .lists))) (c .list-all .result) (c .list-all .last .1 .0)
 listed c = c .list-all .ensures _ (lists-held (c .before .before .before .pre .links .stores))
 
 read : (c : tie.After-list-all) → Read (listAt (c .before .before .before .args .ready .lists)) (c .list-all .last .1 .0) (c .list-all .result / 2)

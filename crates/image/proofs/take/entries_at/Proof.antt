@@ -2,6 +2,7 @@ use Prim.Native.Nat.{_-_, _≤_}
 use native.Mathlib.Omega.{arith}
 use borrow.Author.Needs.{needs}
 use Rattle.rules.specs.Table.{most}
+use Rattle.table.specs.Stored.{noEntry}
 use Rattle.image.specs.Bytes.{taskFrom}
 use Rattle.image.proofs.Taking.{FirstTaken, none-taken, next-taken, all-taken}
 use Rattle.image.proofs.take.entries_at.Statement.{statement}
@@ -14,7 +15,7 @@ abbrev μ-loop : tie.MeasureT-loop
 μ-loop bytes at tasks₀ i₀ tasks i = most - i
 
 loop-holds : tie.Need-loop-holds Inv-loop μ-loop
-loop-holds c = (omega arith, none-taken _ _ _ _ (record { c = 0; d = 0; t = 0 }))
+loop-holds c = (omega arith, none-taken _ _ _ _ noEntry)
 
 mul-task-at : tie.Need-mul-task-at Inv-loop μ-loop
 mul-task-at c = search needs

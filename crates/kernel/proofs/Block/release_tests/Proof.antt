@@ -1,7 +1,7 @@
 use mathlib.Core.Path.{refl, _∙_}
 use borrow.Author.Needs.{needs}
 use Rattle.kernel.specs.Block.{viewOf}
-use Rattle.kernel.specs.Tests.{releaseTestsOf}
+use Rattle.rules.specs.Calls.{releaseTests}
 use Rattle.kernel.proofs.Testing.{refused-early, goes-on}
 use Rattle.kernel.proofs.Block.release_tests.Statement.{statement}
 use Rattle.kernel.proofs.Block.release_tests.Tie as tie
@@ -24,7 +24,7 @@ returns c = refused-early _ _ _ (c .before .before .before .clock-tests .ensures
 returns-2 : tie.Need-returns-2
 returns-2 c =
     let a = c .before .before .before .before .before in
-    c .may-release .ensures ∙ goes-on _ _ _ (c .before .before .before .before .clock-tests .ensures) (λ t. releaseTestsOf (viewOf (a .args .self)) t (a .args .task .0)) refl (c .before .before .checked2 .given .1)
+    c .may-release .ensures ∙ goes-on _ _ _ (c .before .before .before .before .clock-tests .ensures) (λ t. releaseTests (viewOf (a .args .self)) t (a .args .task .0)) refl (c .before .before .checked2 .given .1)
 
 pub release-tests-spec : {M : Type 1} → statement M
 release-tests-spec =
