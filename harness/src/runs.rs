@@ -7,8 +7,6 @@ use crate::streams;
 
 /// What the room holds before a run; behind the output it stays.
 const UNTOUCHED: u8 = 0xa5;
-/// How many bytes behind the output are looked at.
-const BEHIND: usize = 64;
 
 #[derive(Default)]
 struct Counts {
@@ -44,7 +42,8 @@ fn first_difference(want: &[u8], got: &[u8]) -> String {
     "they differ in line ends".into()
 }
 
-fn compare(stream: &[u8], room: &mut [u8], counts: &mut Counts) -> Result<(), String> {
+/// The room holds the model's output, and behind it every byte is as it was before the run.
+fn compare(stream: &[u8], before: &[u8], room: &mut [u8], counts: &mut Counts) -> Result<(), String> {
     let want = runner::output(stream);
     counts.add(stream, &want);
     let length = library::run(stream, room);
@@ -52,7 +51,7 @@ fn compare(stream: &[u8], room: &mut [u8], counts: &mut Counts) -> Result<(), St
     if got != want.as_bytes() {
         return Err(first_difference(want.as_bytes(), got));
     }
-    if room[length..].iter().take(BEHIND).any(|&byte| byte != UNTOUCHED) {
+    if room[length..] != before[length..] {
         return Err("bytes behind the output were written".into());
     }
     room[..length].fill(UNTOUCHED);
@@ -71,10 +70,11 @@ fn short_room() -> Result<(), String> {
 
 pub fn check(seed: u64, count: u64) -> Result<String, String> {
     short_room()?;
-    let (mut room, mut counts) = (vec![UNTOUCHED; ROOM], Counts::default());
+    let before = vec![UNTOUCHED; ROOM];
+    let (mut room, mut counts) = (before.clone(), Counts::default());
     for seed in seed..seed + count {
         let stream = streams::random(&mut Dice::new(seed));
-        compare(&stream, &mut room, &mut counts).map_err(|why| format!("seed {seed}: {why}\nthe stream:\n{}", streams::told(&stream)))?;
+        compare(&stream, &before, &mut room, &mut counts).map_err(|why| format!("seed {seed}: {why}\nthe stream:\n{}", streams::told(&stream)))?;
     }
     let Counts { refused, accepted_calls, refused_calls, longest } = counts;
     Ok(format!(
