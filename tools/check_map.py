@@ -11,7 +11,8 @@ A mark of the map is a text in `..` of one of these forms. The crate may stand i
   must-fail/zero_moves                a must-fail edit
   tests/clock-end                     a case of tests/cases.txt
 Each mark must exist. And the map must be complete: every definition of a crate's specs/ (laws, the words, apart), every public function
-and every must-fail edit stands in it. A function that returns something and says nothing of it (`ensures`) is wrong too.
+and every must-fail edit stands in it. A function that returns something and says nothing of it (`ensures`) is wrong too, and so is a name
+that two definitions have, or a definition and a type of the code.
 """
 import pathlib
 import re
@@ -26,6 +27,12 @@ DECLARES = re.compile(r"^\s*(?:(?:unfoldable|abbrev|pub|data|record) )*" + NAME 
 DEFINES = re.compile(r"^ *(?:unfoldable |abbrev )?pub (?:record |data )?" + NAME + " ")
 ITEM = re.compile(r'^ *(?:pub )?(?:extern "C" )?(?:fn|struct|enum|const) (\w+)', re.M)
 FUNCTION = re.compile(r'^ *(?:pub )?(?:extern "C" )?fn (\w+)\((?:[^{]|\n)*?-> [^{\n]+?(?: \{$|\n((?:.*\n)*?) *\{$)', re.M)
+
+
+# The same said again: of a state, of a block's fields and of a block; of the rules and of the block.
+AGAIN = {"Whole", "Demand1", "Demands"}
+# The rules' types that the code has too, under the same name.
+TWINS = {"Answer", "Event", "Found", "Job", "Last", "Margin", "Point", "Ready", "Record", "Refusal", "Task", "Verdict"}
 
 
 def lines(path):
@@ -91,6 +98,19 @@ def silent():
             for m in FUNCTION.finditer(path.read_text()) if "ensures" not in (m.group(2) or "")]
 
 
+def twice():
+    """The names with two meanings."""
+    places = {}
+    for path in sorted(ROOT.glob("crates/*/specs/*.antt")):
+        for name in defined(path):
+            places.setdefault(name, []).append(path)
+    for path in sorted(ROOT.glob("crates/*/src/*.rt")):
+        for name in re.findall(r"^pub (?:struct|enum) (\w+)", path.read_text(), re.M):
+            places.setdefault(name, []).append(path)
+    return [f"two meanings of {name}: {', '.join(str(path.relative_to(ROOT)) for path in paths)}"
+            for name, paths in places.items() if len(paths) > 1 and name not in AGAIN | TWINS]
+
+
 def main():
     if len(sys.argv) > 1:
         print("usage: tools/check_map.py", file=sys.stderr)
@@ -100,11 +120,11 @@ def main():
         return 2
     marks = MARK.findall(MAP.read_text())
     wrong = [f"docs/DEMANDS.md: {why}: {crate and crate + '/'}{part}/{rest}" for crate, part, rest in marks if (why := fault(crate, part, rest))]
-    wrong += [f"docs/DEMANDS.md: not in the map: {mark}" for mark in missing(marks)] + silent()
+    wrong += [f"docs/DEMANDS.md: not in the map: {mark}" for mark in missing(marks)] + silent() + twice()
     for line in wrong:
         print(line)
     if not wrong:
-        print(f"docs/DEMANDS.md: {len(marks)} marks, all true; every definition, public function and must-fail edit stands in it")
+        print(f"docs/DEMANDS.md: {len(marks)} marks, all true; every definition, public function and must-fail edit stands in it; each name has one meaning")
     return 1 if wrong else 0
 
 
