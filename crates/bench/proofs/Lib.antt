@@ -1,2 +1,3 @@
 -- Laws of many calls on one block.
 pub mod Adding
+pub mod Results

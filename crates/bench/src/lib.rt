@@ -14,12 +14,6 @@ use kernel::Block;
 use kernel::Called;
 use kernel::TaskNo;
 
-fn wide(n: u8) -> u64
-    ensures { λ r. ⌜ (r ≡ n) × (r ≤ 255) ⌝ }
-{
-    n as u64
-}
-
 // The task that an answer names; 0 where it names none.
 fn named(called: Called) -> u64
     ensures { λ r. ⌜ (r ≡ namedIn (answerIn (called .answer))) × (r ≤ 255) ⌝ }
@@ -31,7 +25,7 @@ fn named(called: Called) -> u64
             running,
             moves: _,
             margin: _,
-        } => wide(running.number()),
+        } => running.number() as u64,
     }
 }
 

@@ -1,5 +1,5 @@
 // Takes the parts of a block out of bytes, which may be any.
-ghost use Prim.Native.Nat.{_+_, _*_, _<_, _≤_};
+ghost use Prim.Native.Nat.{_+_, _*_, _≤_};
 ghost use mathlib.Core.Path.{_≡_};
 ghost use lib.ListN.{length};
 ghost use Rattle.rules.specs.Table.{most};
@@ -20,18 +20,13 @@ use table::Table;
 use table::Task;
 use table::TaskNo;
 
-// A number of 4 bytes as one of 8.
-fn wide(n: u32) -> u64
-    ensures { λ r. ⌜ (r ≡ n) × (r < 4294967296) ⌝ }
-{
-    n as u64
-}
-
 fn u64_at(bytes: &[u8], at: usize) -> u64
     requires { ⌜ at + 8 ≤ length (now bytes) ⌝ }
     ensures { λ r. ⌜ r ≡ longWord (now (bytes .entry)) at ⌝ }
 {
-    wide(word_at(bytes, at)) + 4294967296 * wide(word_at(bytes, at + 4))
+    let low = word_at(bytes, at) as u64;
+    let high = word_at(bytes, at + 4) as u64;
+    low + 4294967296 * high
 }
 
 fn task_at(bytes: &[u8], at: usize) -> Task

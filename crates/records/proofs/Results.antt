@@ -1,5 +1,8 @@
 -- Two results that a contract allows are equal. Assumes nothing.
-use mathlib.Core.Path.{_≡_, refl, sym, ap, _∙_}
+use mathlib.Core.Path.{_≡_, refl, sym, ap, ap₂, _∙_}
+use mathlib.Core.List.{List}
+use Prim.Native.Nat.{ℕ}
+use denote.Ref.{RefT}
 use Rattle.rules.specs.Calls as Calls
 use Rattle.rules.specs.Records as Rules
 use Rattle.records.specs.declared.Event.{Event}
@@ -8,6 +11,7 @@ use Rattle.records.specs.declared.Record.{Record}
 use Rattle.records.specs.declared.Record.the-variants as Record
 use Rattle.records.specs.declared.Found.{Found}
 use Rattle.records.specs.declared.Found.the-variants as Found
+use Rattle.records.specs.declared.Reader.{Reader}
 use Rattle.records.specs.Read.{callIn, recordIn, foundIn}
 
 -- ---- a call is an event, and only one
@@ -44,3 +48,9 @@ found-same Found.Bad = refl
 
 pub found-one : (a b : Found) → foundIn a ≡ foundIn b → a ≡ b
 found-one a b e = sym (found-same a) ∙ ap foundBy e ∙ found-same b
+
+-- ---- a reader is a stream and a place
+
+-- of `Reader::new`, whose place is 0, and of `Reader::moved`
+pub reader-one : {s : RefT (List ℕ)} {at : ℕ} (r x : Reader) → (r .stream ≡ s) × (r .at ≡ at) → (x .stream ≡ s) × (x .at ≡ at) → x ≡ r
+reader-one r x p q = ap₂ (λ (s : RefT (List ℕ)) (n : ℕ). record { stream = s; at = n }) (q .0 ∙ sym (p .0)) (q .1 ∙ sym (p .1))

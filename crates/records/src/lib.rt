@@ -7,7 +7,7 @@
 //
 // Numbers are little-endian. Each function takes a few steps.
 ghost use mathlib.Core.Path.{_≡_};
-ghost use Prim.Native.Nat.{_+_, _<_, _≤_};
+ghost use Prim.Native.Nat.{_+_, _≤_};
 ghost use lib.ListN.{length};
 ghost use Rattle.rules.specs.Records.{word, recordAt};
 ghost use Rattle.records.specs.Read.{markIn, sizeIn, saysIn, foundIn};
@@ -104,22 +104,16 @@ fn body_at(stream: &[u8], at: usize, mark: Mark, size: usize) -> Found
     }
 }
 
-// A byte as a number of 32 bits.
-fn wide(byte: u8) -> u32
-    ensures { λ r. ⌜ (r ≡ byte) × (r < 256) ⌝ }
-{
-    byte as u32
-}
-
 // "Numbers are little-endian": the number that the four bytes from a place on say. (An inner form: its callers have tested that there are four.)
 pub fn word_at(stream: &[u8], at: usize) -> u32
     requires { ⌜ at + 4 ≤ length (now stream) ⌝ }
     ensures { λ r. ⌜ r ≡ word (now (stream .entry)) at ⌝ }
 {
-    wide(stream[at])
-        + 256 * wide(stream[at + 1])
-        + 65536 * wide(stream[at + 2])
-        + 16777216 * wide(stream[at + 3])
+    let lowest = stream[at] as u32;
+    let low = stream[at + 1] as u32;
+    let high = stream[at + 2] as u32;
+    let highest = stream[at + 3] as u32;
+    lowest + 256 * low + 65536 * high + 16777216 * highest
 }
 
 // What stands at a place of a stream, whatever the place.

@@ -4,3 +4,4 @@ pub mod Laid
 pub mod Planning
 pub mod Along
 pub mod Output
+pub mod Results

@@ -93,9 +93,10 @@ module _ (s : List ℕ) where
     pub report-put : {before first second after : List ℕ} {i j k moves bound : ℕ}
         → Puts before 0 (plansText (planLines (tableOf (b .tasks .table)) (length (tableOf (b .tasks .table))) 1)) i first
         → Puts first i (eventsText (eventLines (viewOf b) 1 (callsRead s))) j second
+        → Puts second j (sumText moves bound) k after
         → moves ≡ totalOf (eventsOf (viewOf b) (callsRead s)) → bound ≡ boundOf (tableOf (b .tasks .table)) (eventsOf (viewOf b) (callsRead s))
-        → Puts second j (sumText moves bound) k after → Puts before 0 (outputOf s) k after
-    report-put {moves = moves} {bound = bound} p q m n l =
+        → Puts before 0 (outputOf s) k after
+    report-put {moves = moves} {bound = bound} p q l m n =
         puts-as
         (ap₂ (λ (x y : ℕ). plansText (planLines (tableOf (b .tasks .table)) (length (tableOf (b .tasks .table))) 1) ++ eventsText (eventLines (viewOf b) 1 (callsRead s)) ++ sumText x y) m n ∙ shown-output)
         (puts-then (puts-then p q) l)

@@ -3,12 +3,12 @@ use mathlib.Core.Path.{_≡_, refl, sym, ap, ap₂, _∙_}
 use mathlib.Core.Bool.{Bool, true, false}
 use mathlib.Core.Logic.{inr}
 use mathlib.Core.List.{List, [], _∷_, _++_, map, map-append, append-nil}
-use Prim.Native.Nat.{ℕ, _+_, _≤_, _<_}
+use Prim.Native.Nat.{ℕ, _+_, _≤_}
 use native.Mathlib.Omega.{arith}
 use borrow.Author.Tests.{leb-true, leb-false}
 use lib.Dec.{leb}
 use lib.ListN.{length, take, set, replicate, length-append, length-map}
-use lib.Seq.{append-snoc}
+use lib.Seq.{append-snoc, set-out}
 use Rattle.laws.proofs.Arrays.{padded, padded-length, padded-next, padded-full, padded-front}
 use Rattle.rules.specs.Table as Rules
 use Rattle.rules.specs.Table.{most, verdictOf}
@@ -20,7 +20,7 @@ use Rattle.table.specs.declared.Table.{Table}
 use Rattle.table.specs.declared.Task.{Task}
 use Rattle.table.specs.Stored.{taskOf, noEntry, tableOf}
 use Rattle.table.proofs.Tests.{table-length, table-is}
-use Rattle.stream.specs.Load.{storedAs, tableIn}
+use Rattle.stream.specs.Load.{storedAs, tableIn, addedTo}
 
 -- ---- one task more
 
@@ -28,35 +28,41 @@ module _ (ts : List Rules.Task) (x : Task) where
   map-more : map storedAs (ts ++ (taskOf x ∷ [])) ≡ map storedAs ts ++ (x ∷ [])
   map-more = map-append storedAs ts (taskOf x ∷ [])
 
-  count-more : length ts + 1 ≡ length (ts ++ (taskOf x ∷ []))
-  count-more = sym (length-append ts (taskOf x ∷ []))
+  same-count : length ts ≡ length (map storedAs ts)
+  same-count = sym (length-map ts storedAs)
 
-  -- of the table that stores the list: counted up, and with these tasks
-  module _ (table : Table) (tasks : List Task) (e : table ≡ tableIn ts) where
-    abbrev IsMore : Type 0
-    IsMore = _≡_ {A = Table} (record { count = table .count + 1; tasks = tasks }) (tableIn (ts ++ taskOf x ∷ []))
+  -- where there is room it is kept, and where there is none it is not
+  put-more : set (tableIn ts .tasks) (length ts) x ≡ padded noEntry most (map storedAs ts ++ (x ∷ []))
+  unfolding tableIn
+  put-more = by-room (leb most (length ts)) refl
+    where
+      by-room : (b : Bool) → leb most (length ts) ≡ b → set (padded noEntry most (map storedAs ts)) (length ts) x ≡ padded noEntry most (map storedAs ts ++ (x ∷ []))
+      by-room true e =
+          let h = leb-true most (length ts) e in
+          set-out (padded noEntry most (map storedAs ts)) (length ts) x (omega (arith, padded-length noEntry most (map storedAs ts)))
+          ∙ sym (padded-full noEntry most (map storedAs ts) (x ∷ []) (omega (arith, same-count)))
+      by-room false e =
+          let h = leb-false most (length ts) e in
+          ap (λ (n : ℕ). set (padded noEntry most (map storedAs ts)) n x) same-count
+          ∙ padded-next noEntry most (map storedAs ts) x (omega (arith, same-count))
 
-    same-count : table .count ≡ length (map storedAs ts)
-    unfolding tableIn
-    same-count = ap (λ (y : Table). y .count) e ∙ sym (length-map ts storedAs)
+  -- a table that stores the list stores the list with this one behind it
+  pub added-more : addedTo (tableIn ts) x ≡ tableIn (ts ++ taskOf x ∷ [])
+  unfolding tableIn
+  added-more =
+      ap₂ (λ (n : ℕ) (xs : List Task). record { count = n; tasks = xs }) (sym (length-append ts (taskOf x ∷ [])))
+      (put-more ∙ ap (padded noEntry most) (sym map-more))
 
-    is-more : tasks ≡ padded noEntry most (map storedAs ts ++ (x ∷ [])) → IsMore
-    unfolding tableIn
-    is-more p =
-        ap₂ (λ (n : ℕ) (xs : List Task). record { count = n; tasks = xs }) (ap (λ (y : Table). y .count + 1) e ∙ count-more)
-        (p ∙ ap (padded noEntry most) (sym map-more))
+-- a task is kept where there is room, and where there is none it is only counted
+module _ (table : Table) (x : Task) (tasks : List Task) where
+  abbrev IsMore : Type 0
+  IsMore = _≡_ {A = Table} (record { count = table .count + 1; tasks = tasks }) (addedTo table x)
 
-    pub added-kept : table .count < most → tasks ≡ set (table .tasks) (table .count) x → IsMore
-    unfolding tableIn
-    added-kept h t =
-        is-more
-        (t ∙ ap₂ (λ (xs : List Task) (n : ℕ). set xs n x) (ap (λ (y : Table). y .tasks) e) same-count
-        ∙ padded-next noEntry most (map storedAs ts) x (omega (arith, same-count)))
+  pub added-kept : tasks ≡ set (table .tasks) (table .count) x → IsMore
+  added-kept t = ap (λ (xs : List Task). record { count = table .count + 1; tasks = xs }) t
 
-    pub added-past : most ≤ table .count → tasks ≡ table .tasks → IsMore
-    unfolding tableIn
-    added-past h t =
-        is-more (t ∙ ap (λ (y : Table). y .tasks) e ∙ sym (padded-full noEntry most (map storedAs ts) (x ∷ []) (omega (arith, same-count))))
+  pub added-past : length (table .tasks) ≡ most → most ≤ table .count → tasks ≡ table .tasks → IsMore
+  added-past long h t = ap (λ (xs : List Task). record { count = table .count + 1; tasks = xs }) (t ∙ sym (set-out (table .tasks) (table .count) x (omega arith)))
 
 -- ---- read back
 
@@ -125,12 +131,11 @@ module _ (s : List ℕ) where
     loaded-event c n e =
         record { ahead = now .ahead; stored = now .stored; few = omega (arith, now .few); all = ap (λ (ts : List Rules.Task). now .ahead ++ ts) (sym (tasks-same s at c n e)) ∙ now .all }
 
-    pub loaded-task : (x : Task) (n : ℕ) (more : Table) → recordAt s at ≡ Read (TaskRecord (taskOf x)) n
-        → ((ts : List Rules.Task) → table ≡ tableIn ts → more ≡ tableIn (ts ++ taskOf x ∷ [])) → Loaded s (at + n) more
+    pub loaded-task : (x : Task) (n : ℕ) (more : Table) → recordAt s at ≡ Read (TaskRecord (taskOf x)) n → more ≡ addedTo table x → Loaded s (at + n) more
     loaded-task x n more e f =
         record {
           ahead = now .ahead ++ taskOf x ∷ [];
-          stored = f (now .ahead) (now .stored);
+          stored = f ∙ ap (λ (y : Table). addedTo y x) (now .stored) ∙ added-more (now .ahead) x;
           few = omega (arith, length-append (now .ahead) (taskOf x ∷ []), now .few, read-within s at _ n e .0);
           all = append-snoc (now .ahead) (taskOf x) (tasksIn (itemsFrom s (at + n))) ∙ ap (λ (ts : List Rules.Task). now .ahead ++ ts) (sym (tasks-more s at (taskOf x) n e)) ∙ now .all;
         }

@@ -5,16 +5,13 @@
 //
 // Each reads the stream once.
 ghost use mathlib.Core.Path.{_≡_};
-ghost use mathlib.Core.List.{List, [], _∷_, _++_};
 ghost use mathlib.Core.Bool.{false};
 ghost use Prim.Native.Nat.{suc, _<_, _^_};
 ghost use Rattle.rules.specs.Numbers.{firstOf, numberIn, givenWith};
-ghost use Rattle.rules.specs.Table as Rules;
 ghost use Rattle.rules.specs.Records.{isTaskRecord, itemsOf, recordTests, streamOf, tasksRead};
-ghost use Rattle.table.specs.Stored.{taskOf};
 ghost use Rattle.records.specs.Read.{readAs};
 ghost use Rattle.stream.specs.Answer.{streamIn};
-ghost use Rattle.stream.specs.Load.{tableIn};
+ghost use Rattle.stream.specs.Load.{tableIn, addedTo};
 use records::Found;
 use records::Record;
 use records::read;
@@ -112,7 +109,7 @@ fn records_test(stream: &[u8]) -> Stream
 // A table and one task more. Past the room for them tasks are counted, and not kept.
 fn added(table: Table, task: Task) -> Table
     requires { ⌜ suc (table .count) < 2 ^ 64 ⌝ }
-    ensures { λ r. ⌜ ((ts : List Rules.Task) → table ≡ tableIn ts → r ≡ tableIn (ts ++ taskOf task ∷ [])) ⌝ }
+    ensures { λ r. ⌜ r ≡ addedTo table task ⌝ }
 {
     let mut tasks = table.tasks;
     let count = table.count;

@@ -1,4 +1,4 @@
-use mathlib.Core.Path.{_∙_}
+use native.Mathlib.Omega.{arith}
 use borrow.Author.Needs.{needs}
 use Rattle.bench.proofs.named.Statement.{statement}
 use Rattle.bench.proofs.named.Tie as tie
@@ -12,14 +12,14 @@ enum-known-answer c = search needs
 number-requires : tie.Need-number-requires
 number-requires c κs = search needs
 
-wide-requires : tie.Need-wide-requires
-wide-requires c κs = search needs
+cast-result : tie.Need-cast-result
+cast-result c = search needs
 
 returns : tie.Need-returns
 returns c = search needs
 
 returns-2 : tie.Need-returns-2
-returns-2 c = rw (c .before .before .before .answer .given .1) (c .wide .ensures .0 ∙ c .before .number .ensures, c .wide .ensures .1)
+returns-2 c = rw (c .before .before .answer .given .1) (c .number .ensures, omega arith)
 
 pub named-spec : {M : Type 1} → statement M
-named-spec = tie.close (tie.spec enum-told enum-known-answer number-requires wide-requires returns returns-2)
+named-spec = tie.close (tie.spec enum-told enum-known-answer number-requires cast-result returns returns-2)

@@ -33,7 +33,7 @@ returns : tie.Need-returns
 returns c =
     let s = c .before .before .before .before .before .before .before .before .before .before .before .before .before .before .before in let plans = c .before .before .before .before .before .before .before .before .before .before .plan-lines .ensures in
     let events = c .before .before .before .before .before .before .events .ensures in let sum = c .before .before .sum-line .ensures in
-    (report-put (s .args .stream .now) (s .args .block) (s .pre .0) (plans .0) (events .text) (events .moves) (events .bound) (sum .0), omega (arith, plans .1, events .near, sum .1))
+    (report-put (s .args .stream .now) (s .args .block) (s .pre .0) (plans .0) (events .text) (sum .0) (events .moves) (events .bound), omega (arith, plans .1, events .near, sum .1))
 
 pub lines-spec : {M : Type 1} → statement M
 lines-spec = tie.close (tie.spec plan-lines-requires events-requires sum-line-requires same-length returns)

@@ -1,6 +1,10 @@
+use mathlib.Core.Path.{_≡_}
 use mathlib.Core.Logic.{⊎-elim}
 use native.Mathlib.Omega.{arith}
 use borrow.Author.Needs.{needs}
+use lib.ListN.{length}
+use Rattle.laws.proofs.Arrays.{long-map}
+use Rattle.rules.specs.Table.{most}
 use Rattle.stream.proofs.Loading.{added-kept, added-past}
 use Rattle.stream.proofs.added.Statement.{statement}
 use Rattle.stream.proofs.added.Tie as tie
@@ -15,7 +19,10 @@ add-t9 : tie.Need-add-t9
 add-t9 c = search needs
 
 returns : tie.Need-returns
-returns c = λ ts e. ⊎-elim (λ w. added-kept ts _ _ _ e (omega arith) (w .1)) (λ w. added-past ts _ _ _ e (omega arith) (w .1)) (c .if1 .came)
+returns c =
+    let a = c .before .before .args in
+    let long : length (a .table .tasks) ≡ most = search (needs, long-map) in
+    ⊎-elim (λ w. added-kept (a .table) (a .task) _ (w .1)) (λ w. added-past (a .table) (a .task) _ long (omega arith) (w .1)) (c .if1 .came)
 
 pub added-spec : {M : Type 1} → statement M
 added-spec = tie.close (tie.spec mul-tasks array-set-from-tasks add-t9 returns)
