@@ -53,9 +53,10 @@ AnswersBy called bytes answer r after answered (Refused q) = (r ≡ numberOf q) 
 abbrev pub Answers : Called → List ℕ → List ℕ → ℕ → List ℕ → List ℕ → Type 0
 Answers called bytes answer r after answered = AnswersBy called bytes answer r after answered (answerIn (called .answer))
 
--- a call's result on the block that the bytes say, and what of it was stored and answered
+-- a call on the block that the bytes say gave this back, and so much of it is stored
 pub record CalledAs (c : Call) (bytes answer : List ℕ) (r : ℕ) (after answered : List ℕ) : Type 0 where
   pub called : Called
+  -- (its arrays have as many places as their types say)
   pub sizes : Sizes (called .block)
   pub gives : Calls.Gives (blockIn bytes) c called
   pub answers : Answers called bytes answer r after answered
@@ -70,9 +71,10 @@ Tells c bytes answer r after answered = TellsBy c bytes answer r after answered 
 
 -- ---- start
 
--- a start's result on the stream's table, and its block was stored
+-- start gave this back for the stream's table, and its block is stored
 pub record StartedAs (s : List ℕ) (reading : ℕ) (bytes after : List ℕ) : Type 0 where
   pub started : Started
+  -- (its arrays have as many places as their types say)
   pub sizes : Sizes (started .block)
   pub starts : Start.Starts (tableIn (tasksRead s)) reading started
   pub stored : after ≡ written (bytesOf (started .block)) bytes

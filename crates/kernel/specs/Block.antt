@@ -1,4 +1,4 @@
--- The block: the state of the rules that it holds, when it is whole, and what no call changes in it.
+-- The block: the state of the rules that it holds, when it is whole, how long its arrays are, and what no call changes in it.
 use Prim.Native.Nat.{ℕ, suc}
 use mathlib.Core.Path.{_≡_}
 use mathlib.Core.Bool.{Bool, false}
@@ -20,7 +20,7 @@ viewOf b = Fields.viewIn (b .tasks) (b .jobs) (b .ready) (b .now .clock) (b .now
 abbrev pub Whole : Block → Type 0
 Whole b = Fields.Whole (b .tasks) (b .jobs) (b .ready) (b .now .clock)
 
--- what the types alone say: the arrays are as long as their types say
+-- what the types alone say: every array is as long as its type says
 pub record Sizes (b : Block) : Type 0 where
   pub tasks : length (b .tasks .table .tasks) ≡ most
   pub rising : length (b .tasks .rising) ≡ most
