@@ -32,7 +32,7 @@ use Rattle.kernel.specs.declared.Answer.the-variants.{Accepted, Refused}
 use Rattle.kernel.specs.declared.start.Started.{Started}
 use Rattle.kernel.specs.declared.asks.Listed.{Listed}
 use Rattle.kernel.specs.declared.asks.Listed.the-variants as Listed
-use Rattle.kernel.specs.Block.{Whole}
+use Rattle.kernel.specs.Block.{Whole, Sizes}
 use Rattle.kernel.specs.Answers.{refusalIn, marginIn}
 use Rattle.kernel.specs.Calls.{Gives}
 use Rattle.kernel.specs.Start.{Starts}
@@ -58,9 +58,10 @@ module _ (c : Call) (bytes answer : List ℕ) where
   pub tells-none : (length bytes ≡ size → ⊥) → Tells c bytes answer 15 bytes answer
   tells-none n = rw (ne-eqb (length bytes) size n) (refl, refl, refl)
 
-  pub tells : length bytes ≡ size → {b : Block} → b ≡ blockIn bytes → (called : Called) → Gives b c called → (r : ℕ) (after answered : List ℕ)
+  pub tells : length bytes ≡ size → {b : Block} → b ≡ blockIn bytes → (called : Called) → Sizes (called .block) → Gives b c called → (r : ℕ) (after answered : List ℕ)
       → Answers called bytes answer r after answered → Tells c bytes answer r after answered
-  tells h e called g r after answered a = rw (eq-eqb (length bytes) size h) (called, subst (λ (b : Block). Gives b c called) e g, a)
+  tells h e called sizes g r after answered a =
+      rw (eq-eqb (length bytes) size h) (record { called = called; sizes = sizes; gives = subst (λ (b : Block). Gives b c called) e g; answers = a })
 
 -- ---- start
 
@@ -85,8 +86,9 @@ module _ (s : List ℕ) (reading : ℕ) (bytes : List ℕ) where
       pub begins-refused : (q : Numbers.Refusal) → verdictIn (started .verdict) ≡ Failed q → {a b : ℕ} → a ≡ numberIn (verdictIn (started .verdict)) → b ≡ givenWith (verdictIn (started .verdict)) → TellsStart s reading bytes (a + 256 * b) bytes
       begins-refused q e = refuses (verdictIn (started .verdict)) q e (found ∙ e)
 
-      pub begins-sound : verdictIn (started .verdict) ≡ Passed → {after : List ℕ} → after ≡ written (bytesOf (started .block)) bytes → TellsStart s reading bytes 0 after
-      begins-sound e w = rw (eq-eqb (length bytes) size h, found ∙ e) (refl, started, subst (λ (t : Table). Starts t reading started) is st, w)
+      pub begins-sound : verdictIn (started .verdict) ≡ Passed → Sizes (started .block) → {after : List ℕ} → after ≡ written (bytesOf (started .block)) bytes → TellsStart s reading bytes 0 after
+      begins-sound e sizes w =
+          rw (eq-eqb (length bytes) size h, found ∙ e) (refl, record { started = started; sizes = sizes; starts = subst (λ (t : Table). Starts t reading started) is st; stored = w })
 
 -- ---- the listing
 

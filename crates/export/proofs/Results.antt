@@ -1,4 +1,4 @@
--- Two results that a contract allows are equal, where the arrays of a block that was stored are as long as their types say. Assumes nothing.
+-- Two results that a contract allows are equal: answers, and every byte that was lent. Assumes nothing.
 use mathlib.Core.Path.{_≡_, sym, ap, ap₂, subst, _∙_}
 use mathlib.Core.Bool.{Bool, true, false}
 use mathlib.Core.List.{List}
@@ -10,7 +10,6 @@ use Rattle.laws.proofs.Buffers.{puts-one}
 use Rattle.rules.specs.Numbers.{Verdict, Passed, Failed, firstOf}
 use Rattle.rules.specs.Calls.{Call, Answer, Accepted, Refused}
 use Rattle.rules.specs.Records.{runnerTests, tasksRead}
-use Rattle.lists.proofs.Storage.{Sized}
 use Rattle.stream.specs.Load.{tableIn}
 use Rattle.kernel.specs.declared.Called.{Called}
 use Rattle.kernel.specs.declared.start.Started.{Started}
@@ -18,19 +17,13 @@ use Rattle.kernel.specs.declared.asks.Listed.{Listed}
 use Rattle.kernel.specs.Block.{Whole}
 use Rattle.kernel.specs.Answers.{answerIn}
 use Rattle.kernel.specs.Asks.{listedIn}
-use Rattle.kernel.proofs.Views.{Sizes}
 use Rattle.kernel.proofs.Fifteen.{both-15}
 use Rattle.kernel.proofs.Results.{gives-one, listing-one}
 use Rattle.kernel.proofs.Starting.{start-one}
 use Rattle.image.specs.Bytes.{size, bytesOf, blockIn}
-use Rattle.export.specs.Door.{isBlock, AnswersBy, Answers, TellsBy, Tells, StartBy, TellsStartBy, TellsStart, numberBy, TellsListingBy, TellsListing, TellsPlanBy, TellsPlan, TellsWhole}
+use Rattle.export.specs.Door.{isBlock, AnswersBy, Answers, TellsBy, Tells, StartedAs, StartBy, TellsStartBy, TellsStart, numberBy, TellsListingBy, TellsListing, TellsPlanBy, TellsPlan, TellsWhole}
 
 -- ---- a call
-
--- of the block that a call gave back
-abbrev CalledSized : (c : Call) (bytes answer : List ℕ) (r : ℕ) (after answered : List ℕ) (w : Bool) → TellsBy c bytes answer r after answered w → Type 0
-CalledSized c bytes answer r after answered true p = Sizes (p .0 .block)
-CalledSized c bytes answer r after answered false p = Unit {0}
 
 module _ (bytes answer : List ℕ) (r : ℕ) (after answered : List ℕ) (x : ℕ) (last told : List ℕ) where
   abbrev Same : Type 0
@@ -43,43 +36,33 @@ module _ (bytes answer : List ℕ) (r : ℕ) (after answered : List ℕ) (x : �
   pub answers-one : (called other : Called) → other ≡ called → Answers called bytes answer r after answered → Answers other bytes answer x last told → Same
   answers-one called other e p q = by-answer called (answerIn (called .answer)) p (subst (λ (y : Called). Answers y bytes answer x last told) e q)
 
-  pub tells-one : (c : Call) (p : Tells c bytes answer r after answered) (q : Tells c bytes answer x last told)
-      → CalledSized c bytes answer r after answered (isBlock bytes) p → CalledSized c bytes answer x last told (isBlock bytes) q → Same
+  pub tells-one : (c : Call) → Tells c bytes answer r after answered → Tells c bytes answer x last told → Same
   tells-one c = go (isBlock bytes)
     where
-      go : (w : Bool) (p : TellsBy c bytes answer r after answered w) (q : TellsBy c bytes answer x last told w)
-          → CalledSized c bytes answer r after answered w p → CalledSized c bytes answer x last told w q → Same
-      go true p q long wide = answers-one (p .0) (q .0) (gives-one (blockIn bytes) c (p .0) (q .0) long wide (p .1) (q .1)) (p .2) (q .2)
-      go false p q long wide = (q .0 ∙ sym (p .0), q .1 ∙ sym (p .1), q .2 ∙ sym (p .2))
+      go : (w : Bool) → TellsBy c bytes answer r after answered w → TellsBy c bytes answer x last told w → Same
+      go true p q = answers-one (p .called) (q .called) (gives-one (blockIn bytes) c (p .called) (q .called) (p .sizes) (q .sizes) (p .gives) (q .gives)) (p .answers) (q .answers)
+      go false p q = (q .0 ∙ sym (p .0), q .1 ∙ sym (p .1), q .2 ∙ sym (p .2))
 
 -- ---- start
 
--- of the block that was started
-abbrev BegunSized : (s : List ℕ) (reading : ℕ) (bytes : List ℕ) (r : ℕ) (after : List ℕ) (v : Verdict) → StartBy s reading bytes r after v → Type 0
-BegunSized s reading bytes r after Passed p = Sized (p .1 .block .ready .lists)
-BegunSized s reading bytes r after (Failed q) p = Unit {0}
+module _ (s : List ℕ) (reading : ℕ) (bytes : List ℕ) where
+  started-one : (after last : List ℕ) → StartedAs s reading bytes after → StartedAs s reading bytes last → last ≡ after
+  started-one after last p q =
+      q .stored
+      ∙ ap (λ (y : Started). written (bytesOf (y .block)) bytes) (start-one (tableIn (tasksRead s)) reading (q .started) (p .started) (q .sizes .lists) (p .sizes .lists) (q .starts) (p .starts))
+      ∙ sym (p .stored)
 
-abbrev BeginsSized : (s : List ℕ) (reading : ℕ) (bytes : List ℕ) (r : ℕ) (after : List ℕ) (w : Bool) → TellsStartBy s reading bytes r after w → Type 0
-BeginsSized s reading bytes r after true p = BegunSized s reading bytes r after (firstOf (runnerTests s)) p
-BeginsSized s reading bytes r after false p = Unit {0}
+  module _ (r : ℕ) (after : List ℕ) (x : ℕ) (last : List ℕ) where
+    begun-one : (v : Verdict) → StartBy s reading bytes r after v → StartBy s reading bytes x last v → (x ≡ r) × (last ≡ after)
+    begun-one Passed p q = (q .0 ∙ sym (p .0), started-one after last (p .1) (q .1))
+    begun-one (Failed k) p q = (q .0 ∙ sym (p .0), q .1 ∙ sym (p .1))
 
-module _ (s : List ℕ) (reading : ℕ) (bytes : List ℕ) (r : ℕ) (after : List ℕ) (x : ℕ) (last : List ℕ) where
-  begun-one : (v : Verdict) (p : StartBy s reading bytes r after v) (q : StartBy s reading bytes x last v) → BegunSized s reading bytes r after v p → BegunSized s reading bytes x last v q
-      → (x ≡ r) × (last ≡ after)
-  begun-one Passed p q long wide = (
-    q .0 ∙ sym (p .0),
-    q .3 ∙ ap (λ (y : Started). written (bytesOf (y .block)) bytes) (start-one (tableIn (tasksRead s)) reading (q .1) (p .1) wide long (q .2) (p .2)) ∙ sym (p .3),
-  )
-  begun-one (Failed k) p q long wide = (q .0 ∙ sym (p .0), q .1 ∙ sym (p .1))
-
-  pub begins-one : (p : TellsStart s reading bytes r after) (q : TellsStart s reading bytes x last) → BeginsSized s reading bytes r after (isBlock bytes) p → BeginsSized s reading bytes x last (isBlock bytes) q
-      → (x ≡ r) × (last ≡ after)
-  begins-one = go (isBlock bytes)
-    where
-      go : (w : Bool) (p : TellsStartBy s reading bytes r after w) (q : TellsStartBy s reading bytes x last w) → BeginsSized s reading bytes r after w p → BeginsSized s reading bytes x last w q
-          → (x ≡ r) × (last ≡ after)
-      go true p q long wide = begun-one (firstOf (runnerTests s)) p q long wide
-      go false p q long wide = (q .0 ∙ sym (p .0), q .1 ∙ sym (p .1))
+    pub begins-one : TellsStart s reading bytes r after → TellsStart s reading bytes x last → (x ≡ r) × (last ≡ after)
+    begins-one = go (isBlock bytes)
+      where
+        go : (w : Bool) → TellsStartBy s reading bytes r after w → TellsStartBy s reading bytes x last w → (x ≡ r) × (last ≡ after)
+        go true p q = begun-one (firstOf (runnerTests s)) p q
+        go false p q = (q .0 ∙ sym (p .0), q .1 ∙ sym (p .1))
 
 -- ---- the listing, a plan, and whether a block is whole
 

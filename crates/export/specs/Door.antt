@@ -15,7 +15,7 @@ use Rattle.rules.specs.Records.{tasksRead, runnerTests}
 use Rattle.kernel.specs.declared.Called.{Called}
 use Rattle.kernel.specs.declared.start.Started.{Started}
 use Rattle.kernel.specs.declared.asks.Listed.{Listed}
-use Rattle.kernel.specs.Block.{viewOf, Whole, Test15}
+use Rattle.kernel.specs.Block.{viewOf, Whole, Sizes, Test15}
 use Rattle.kernel.specs.Answers.{answerIn}
 use Rattle.kernel.specs.Calls as Calls
 use Rattle.kernel.specs.Start as Start
@@ -53,8 +53,16 @@ AnswersBy called bytes answer r after answered (Refused q) = (r ≡ numberOf q) 
 abbrev pub Answers : Called → List ℕ → List ℕ → ℕ → List ℕ → List ℕ → Type 0
 Answers called bytes answer r after answered = AnswersBy called bytes answer r after answered (answerIn (called .answer))
 
+-- a call on the block that the bytes say gave this back, and so much of it is stored
+pub record CalledAs (c : Call) (bytes answer : List ℕ) (r : ℕ) (after answered : List ℕ) : Type 0 where
+  pub called : Called
+  -- (its arrays have as many places as their types say)
+  pub sizes : Sizes (called .block)
+  pub gives : Calls.Gives (blockIn bytes) c called
+  pub answers : Answers called bytes answer r after answered
+
 abbrev pub TellsBy : Call → List ℕ → List ℕ → ℕ → List ℕ → List ℕ → Bool → Type 0
-TellsBy c bytes answer r after answered true = (called : Called) × Calls.Gives (blockIn bytes) c called × Answers called bytes answer r after answered
+TellsBy c bytes answer r after answered true = CalledAs c bytes answer r after answered
 TellsBy c bytes answer r after answered false = (r ≡ numberOf NotWhole) × (after ≡ bytes) × (answered ≡ answer)
 
 -- the call on the block that the bytes say; 15 where they are too few or too many
@@ -63,9 +71,16 @@ Tells c bytes answer r after answered = TellsBy c bytes answer r after answered 
 
 -- ---- start
 
+-- start gave this back for the stream's table, and its block is stored
+pub record StartedAs (s : List ℕ) (reading : ℕ) (bytes after : List ℕ) : Type 0 where
+  pub started : Started
+  -- (its arrays have as many places as their types say)
+  pub sizes : Sizes (started .block)
+  pub starts : Start.Starts (tableIn (tasksRead s)) reading started
+  pub stored : after ≡ written (bytesOf (started .block)) bytes
+
 abbrev pub StartBy : List ℕ → ℕ → List ℕ → ℕ → List ℕ → Verdict → Type 0
-StartBy s reading bytes r after Passed =
-    (r ≡ 0) × (started : Started) × Start.Starts (tableIn (tasksRead s)) reading started × (after ≡ written (bytesOf (started .block)) bytes)
+StartBy s reading bytes r after Passed = (r ≡ 0) × StartedAs s reading bytes after
 StartBy s reading bytes r after (Failed q) = (r ≡ numberOf q + 256 * given (valueOf q)) × (after ≡ bytes)
 
 abbrev pub TellsStartBy : List ℕ → ℕ → List ℕ → ℕ → List ℕ → Bool → Type 0

@@ -28,7 +28,7 @@ use Rattle.kernel.specs.declared.asks.Listed.the-variants as Listed
 use Rattle.kernel.specs.declared.asks.Asked.{Asked}
 use Rattle.kernel.specs.declared.asks.Asked.the-variants as Asked
 use Rattle.kernel.specs.declared.asks.Planned.{Planned}
-use Rattle.kernel.specs.Block.{SameTasks}
+use Rattle.kernel.specs.Block.{Sizes, SameTasks}
 use Rattle.kernel.specs.Answers.{refusalIn, marginIn, answerIn}
 use Rattle.clock.specs.Advance.{Advanced}
 use Rattle.kernel.specs.declared.tests.Checked.{Checked}
@@ -36,7 +36,7 @@ use Rattle.kernel.specs.declared.tests.Checked.the-variants as Checked
 use Rattle.kernel.specs.Tests.{checkedIn}
 use Rattle.kernel.specs.Calls.{Does, Gives, GivesBy}
 use Rattle.kernel.specs.Asks.{listedIn, GivesListing, askedIn, PlansAs, GivesPlan}
-use Rattle.kernel.proofs.Views.{Sizes, blocks-one}
+use Rattle.kernel.proofs.Views.{blocks-one}
 use Rattle.kernel.proofs.Fifteen.{both-15}
 
 -- ---- what an answer says determines it

@@ -23,9 +23,9 @@ use Rattle.table.specs.Stored.{tableOf, verdictIn}
 use Rattle.table.proofs.Verdict.{the-type}
 use Rattle.table.proofs.Tests.{table-length, verdict-one, not-sound}
 use Rattle.levels.proofs.Copies.{laid-first}
+use Rattle.lists.specs.Links.{Sized}
 use Rattle.lists.specs.Answers.{whoIn}
 use Rattle.lists.specs.Held.{listAt}
-use Rattle.lists.proofs.Storage.{Sized}
 use Rattle.lists.proofs.Walks.{list-held}
 use Rattle.lists.proofs.Determined.{arrays-one}
 use Rattle.jobs.specs.declared.Job.{Job}

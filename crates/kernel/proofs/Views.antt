@@ -2,14 +2,12 @@
 use mathlib.Core.Path.{_≡_, refl, sym, ap, ap₂, _∙_, subst}
 use mathlib.Core.Bool.{Bool, true, false}
 use mathlib.Core.List.{List}
-use Prim.Native.Nat.{ℕ, suc}
-use lib.ListN.{length}
+use Prim.Native.Nat.{ℕ}
 use lib.Seq.{ext-getD}
-use Rattle.rules.specs.Table.{most, isTask}
+use Rattle.rules.specs.Table.{isTask}
 use Rattle.rules.specs.State as Rules
 use Rattle.table.specs.Stored.{tableOf}
 use Rattle.lists.specs.Links.{Stores}
-use Rattle.lists.proofs.Storage.{Sized}
 use Rattle.lists.proofs.Walks.{lists-held}
 use Rattle.lists.proofs.Determined.{arrays-one}
 use Rattle.lists.proofs.Results.{who-one}
@@ -19,14 +17,9 @@ use Rattle.jobs.specs.declared.Job.{Job}
 use Rattle.jobs.specs.declared.Tasks.{Tasks}
 use Rattle.jobs.specs.Kept.{lastIn, jobAt, noJob, releasedIn, activeIn}
 use Rattle.kernel.specs.declared.Block.{Block}
-use Rattle.kernel.specs.Block.{viewOf, Whole, SameTasks}
+use Rattle.kernel.specs.Block.{viewOf, Whole, Sizes, SameTasks}
 
 -- ---- determined
-
--- what the types alone say
-pub record Sizes (b : Block) : Type 0 where
-  pub jobs : length (b .jobs) ≡ suc most
-  pub lists : Sized (b .ready .lists)
 
 last-one : (a b : Last) → lastIn a ≡ lastIn b → a ≡ b
 last-one Last.Never Last.Never e = refl

@@ -15,9 +15,8 @@ use Rattle.laws.proofs.Bits.{same-bits}
 use Rattle.rules.specs.Table.{most}
 use Rattle.table.specs.declared.TaskNo.{TaskNo}
 use Rattle.lists.specs.declared.Lists.{Lists}
-use Rattle.lists.specs.Links.{Numbered, Absent, Waits, nobody, at, Linked, occupied, Stores}
+use Rattle.lists.specs.Links.{Numbered, Absent, Waits, Sized, nobody, at, Linked, occupied, Stores}
 use Rattle.lists.specs.Answers.{MayEnter}
-use Rattle.lists.proofs.Storage.{Sized}
 use Rattle.lists.proofs.Walks.{list-held}
 
 -- ---- the lists are determined

@@ -17,10 +17,10 @@ use Rattle.table.specs.declared.TaskNo.{TaskNo}
 use Rattle.lists.specs.declared.Lists.{Lists}
 use Rattle.lists.specs.declared.Popped.{Popped}
 use Rattle.lists.specs.declared.Who.the-variants as Who
-use Rattle.lists.specs.Links.{Numbered, Once, nobody, at, front, Stores}
+use Rattle.lists.specs.Links.{Numbered, Once, Sized, nobody, at, front, Stores}
 use Rattle.lists.specs.Answers.{whoIn, MayEnter, PopsFrom, frontMoved}
 use Rattle.lists.proofs.Links.{front-empty, front-most, back-most, push-front-first, push-front-more, push-back-first, push-back-more, pop-last, pop-more}
-use Rattle.lists.proofs.Storage.{Sized, at-set, stored-by, stores}
+use Rattle.lists.proofs.Storage.{at-set, stored-by, stores}
 use Rattle.lists.proofs.Determined.{enters-absent}
 
 abbrev entry : List TaskNo → ℕ → TaskNo

@@ -12,9 +12,8 @@ use Rattle.lists.specs.declared.Lists.{Lists}
 use Rattle.lists.specs.declared.Popped.{Popped}
 use Rattle.lists.specs.declared.Who.{Who}
 use Rattle.lists.specs.declared.Who.the-variants as Who
-use Rattle.lists.specs.Links.{nobody, Stores}
+use Rattle.lists.specs.Links.{Sized, nobody, Stores}
 use Rattle.lists.specs.Answers.{whoIn, PopsFrom, Holds}
-use Rattle.lists.proofs.Storage.{Sized}
 use Rattle.lists.proofs.Determined.{arrays-one}
 use Rattle.lists.proofs.Operations.{stores-empty}
 

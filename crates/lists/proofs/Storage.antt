@@ -1,22 +1,14 @@
 -- Arrays of task numbers as families: what is stored in them, and what they store. Assumes nothing.
 use mathlib.Core.Path.{_≡_, sym, subst}
 use mathlib.Core.List.{List}
-use Prim.Native.Nat.{ℕ, suc, _<_, _^_}
+use Prim.Native.Nat.{ℕ, _<_}
 use lib.ListN.{length, set}
 use Rattle.laws.specs.Words.{put}
 use Rattle.laws.proofs.Families.{set-put}
-use Rattle.rules.specs.Table.{most}
 use Rattle.table.specs.declared.TaskNo.{TaskNo}
 use Rattle.lists.specs.declared.Lists.{Lists}
 use Rattle.lists.specs.Links.{nobody, at, Stores}
 use Rattle.lists.proofs.Links.{StoredBy}
-
--- what the types alone say
-pub record Sized (s : Lists) : Type 0 where
-  pub first : length (s .first) ≡ suc most
-  pub last : length (s .last) ≡ suc most
-  pub next : length (s .next) ≡ suc most
-  pub map : s .map < 2 ^ most
 
 -- a store is a change of the family at one place
 pub at-set : (a : List TaskNo) (i : ℕ) (t : TaskNo) → i < length a → at (set a i t) ≡ put (at a) i (t .0)

@@ -1,9 +1,9 @@
 -- When arrays of links and a map store lists: a list of task numbers for each level, as the rules have them.
-use Prim.Native.Nat.{ℕ, suc, _≤_, _<_}
+use Prim.Native.Nat.{ℕ, suc, _≤_, _<_, _^_}
 use mathlib.Core.Path.{_≡_}
 use mathlib.Core.Bool.{Bool, true, false}
 use mathlib.Core.List.{List, [], _∷_}
-use lib.ListN.{getD}
+use lib.ListN.{length, getD}
 use Rattle.laws.specs.Words.{digit, In}
 use Rattle.laws.specs.Bits.{bitAt}
 use Rattle.rules.specs.Table.{most}
@@ -34,6 +34,13 @@ pub record Waits (ls : ℕ → List ℕ) : Type 0 where
   pub apart : (x i j : ℕ) → In x (ls i) → In x (ls j) → i ≡ j
 
 -- ---- links
+
+-- what the types alone say: the arrays are as long as their type says, and the map has a bit for each level
+pub record Sized (s : Lists) : Type 0 where
+  pub first : length (s .first) ≡ suc most
+  pub last : length (s .last) ≡ suc most
+  pub next : length (s .next) ≡ suc most
+  pub map : s .map < 2 ^ most
 
 abbrev pub nobody : TaskNo
 nobody = record { 0 = 0 }

@@ -6,9 +6,8 @@ use Rattle.rules.specs.State as Rules
 use Rattle.rules.specs.Calls.{metBy}
 use Rattle.lists.specs.declared.Lists.{Lists}
 use Rattle.lists.specs.declared.Who.{Who}
-use Rattle.lists.specs.Links.{Stores}
+use Rattle.lists.specs.Links.{Sized, Stores}
 use Rattle.lists.specs.Answers.{Holds}
-use Rattle.lists.proofs.Storage.{Sized}
 use Rattle.lists.proofs.Walks.{list-held}
 use Rattle.lists.proofs.Determined.{arrays-one}
 use Rattle.lists.proofs.Results.{who-one}

@@ -1,4 +1,5 @@
 use borrow.Author.Needs.{needs}
+use Rattle.export.proofs.Typed.{called-sizes}
 use Rattle.export.proofs.Doors.{tells-none, tells}
 use Rattle.export.proofs.meter_clock.Statement.{statement}
 use Rattle.export.proofs.meter_clock.Tie as tie
@@ -21,7 +22,7 @@ same-length c = search needs
 returns-2 : tie.Need-returns-2
 returns-2 c =
     let called = c .before .before .before .before .before in let test = called .before .before .before in let s = test .before .before in
-    tells _ (s .args .block .now) (s .args .answer .now) (test .if1 .left) (called .before .load .ensures) _ (called .clock .ensures) _ _ _ (c .before .before .answered .ensures)
+    tells _ (s .args .block .now) (s .args .answer .now) (test .if1 .left) (called .before .load .ensures) _ (called-sizes (called .clock .result) _ (called .clock .ok)) (called .clock .ensures) _ _ _ (c .before .before .answered .ensures)
 
 pub meter-clock-spec : {M : Type 1} → statement M
 meter-clock-spec =

@@ -8,6 +8,7 @@ use Rattle.table.specs.Stored.{verdictIn}
 use Rattle.table.proofs.Tests.{not-sound}
 use Rattle.stream.specs.Answer.{streamIn}
 use Rattle.stream.proofs.Results.{not-readable, offset-small}
+use Rattle.export.proofs.Typed.{started-sizes}
 use Rattle.export.proofs.Doors.{begins-none, begins-unreadable, begins-refused, begins-sound}
 use Rattle.export.proofs.meter_start.Statement.{statement}
 use Rattle.export.proofs.meter_start.Tie as tie
@@ -53,7 +54,7 @@ returns-2 c =
     let begun = c .before .before .before .before .before .before .before in let tested = begun .before .before .before .before in
     let test = tested .before in let s = test .before .before .before in
     begins-sound (s .args .stream .now) (s .args .reading) (s .args .block .now) (test .if1 .left)
-    (readable (begun .before .before)) _ (begun .before .table-in .ensures) (begun .start .result) (begun .start .ensures) (ap verdictIn (c .before .before .before .before .before .enum-told2 .given .1)) (c .before .before .save .ensures)
+    (readable (begun .before .before)) _ (begun .before .table-in .ensures) (begun .start .result) (begun .start .ensures) (ap verdictIn (c .before .before .before .before .before .enum-told2 .given .1)) (started-sizes (begun .start .result) _ (begun .start .ok)) (c .before .before .save .ensures)
 
 number-requires : tie.Need-number-requires
 number-requires c κs = search needs

@@ -4,8 +4,8 @@ use borrow.Author.Needs.{needs}
 use borrow.Author.Tests.{not-true, not-false}
 use Rattle.laws.proofs.Arrays.{long-map}
 use Rattle.laws.proofs.Bools.{decides-same}
+use Rattle.lists.specs.Links.{Sized}
 use Rattle.lists.specs.Answers.{listsOf}
-use Rattle.lists.proofs.Storage.{Sized}
 use Rattle.stored.proofs.Deciding.{tests-hold, holds-first, holds-last, holds-map, holds-listed}
 use Rattle.stored.proofs.holds_lists.Statement.{statement}
 use Rattle.stored.proofs.holds_lists.Tie as tie

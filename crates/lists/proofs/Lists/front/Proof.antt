@@ -1,5 +1,5 @@
-use Rattle.lists.proofs.Storage.{Sized}
 use Rattle.laws.proofs.Arrays.{long-map}
+use Rattle.lists.specs.Links.{Sized}
 use Rattle.lists.proofs.Operations.{front-nobody, front-one}
 use borrow.Author.Needs.{needs}
 use Rattle.lists.proofs.Lists.front.Statement.{statement}

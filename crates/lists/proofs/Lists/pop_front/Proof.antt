@@ -1,6 +1,6 @@
 use native.Mathlib.Omega.{arith}
-use Rattle.lists.proofs.Storage.{Sized}
 use Rattle.laws.proofs.Arrays.{long-map}
+use Rattle.lists.specs.Links.{Sized}
 use Rattle.lists.proofs.Operations.{first-place, popped-none, popped-last, popped-more}
 use borrow.Author.Needs.{needs}
 use Rattle.lists.proofs.Lists.pop_front.Statement.{statement}
