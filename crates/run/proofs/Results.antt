@@ -19,9 +19,9 @@ use Rattle.kernel.specs.declared.Block.{Block}
 use Rattle.kernel.specs.declared.Called.{Called}
 use Rattle.kernel.specs.declared.Margin.{Margin}
 use Rattle.kernel.specs.Answers.{marginIn}
-use Rattle.kernel.specs.Block.{SameTasks}
+use Rattle.kernel.specs.Block.{SameTasks, Sizes}
 use Rattle.kernel.proofs.Results.{answer-one}
-use Rattle.kernel.proofs.Views.{Sizes, blocks-one}
+use Rattle.kernel.proofs.Views.{blocks-one}
 use Rattle.lines.specs.declared.Shown.{Shown}
 use Rattle.lines.specs.Shown.{shownAs}
 use Rattle.run.specs.declared.events.Progress.{Progress}
