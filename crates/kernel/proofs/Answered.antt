@@ -1,5 +1,6 @@
 -- "Every task table, clock reading and event is answered": whatever they are given, start and the calls have a result that their contracts
--- allow, and any calls can be made one after the other. `∥ A ∥₁`: there is an A; which one, is not said here (Results: no two). Assumes nothing.
+-- allow, and any calls can be made one after the other. `∥ A ∥₁`: there is an A (Results and Starting say that there are no two results).
+-- Assumes nothing.
 use mathlib.Core.Path.{_≡_, refl, subst}
 use mathlib.Core.Logic.{∥∥₁-prop, ∥∥₁-elim, ∥∥₁-map}
 use mathlib.Core.List.{List, [], _∷_}
