@@ -7,3 +7,5 @@ pub mod Commits
 pub mod Asking
 pub mod Results
 pub mod Demands
+pub mod Returned
+pub mod Answered

@@ -3,17 +3,18 @@
 --
 -- `Starts`, `Gives`, `GivesListing` and `GivesPlan` are the contracts of start, of the calls release, done and clock, of listing and of plan:
 -- what is said here of every result that they allow holds of the one that the code gives.
-use Prim.Native.Nat.{ℕ, _≤_}
+use Prim.Native.Nat.{ℕ, _*_, _≤_, _<_}
 use mathlib.Core.Path.{_≡_}
 use mathlib.Core.Bool.{Bool, not}
+use mathlib.Core.Logic.{_↔_}
 use mathlib.Core.List.{List, [], _∷_}
 use lib.ListN.{length}
-use Rattle.rules.specs.Numbers.{Refusal, NotWhole, Test, refuse, Passed, Failed}
+use Rattle.rules.specs.Numbers.{Refusal, NoSuchTask, BufferTooShort, NotWhole, Test, refuse, Passed, Failed}
 use Rattle.rules.specs.Table.{most, tableTests, verdictOf}
-use Rattle.rules.specs.State.{Running}
+use Rattle.rules.specs.State.{Running, waiting}
 use Rattle.rules.specs.Calls.{Call, Answer, Accepted, Refused, Margin, taskTest, testsOf, stepOf}
 use Rattle.rules.specs.Listing.{listingTests}
-use Rattle.rules.specs.Refusals.{TableNumbers, CallNumbers}
+use Rattle.rules.specs.Refusals.{InTable, TableNumbers, CallNumbers}
 use Rattle.rules.specs.Histories.{Event, Leads, Seen, seenAtStart, seenAfter, fallsOf, totalOf, boundOf}
 use Rattle.rules.specs.Demands as Rules
 use Rattle.table.specs.declared.Table.{Table}
@@ -52,13 +53,22 @@ pub record Demand1Start (table : Table) (r : Started) : Type 0 where
 pub record Demand1 (b : Block) : Type 0 where
   -- "Calls test 15, 5, 6, 7, then 8 and 9, or 10. The clock call stops after 6."
   pub calls : (c : Call) (r : Called) → Gives b c r → Test15 b (λ whole. Rules.Exactly (with15 (testsOf (viewOf b) c) whole) (Rules.answerVerdict (said r)))
+  -- "the block is not whole"
+  pub number-15 : (c : Call) (r : Called) → Gives b c r → (said r ≡ Refused NotWhole) ↔ (Whole b → ⊥)
   pub unchanged : (c : Call) (r : Called) → Gives b c r → (q : Refusal) → said r ≡ Refused q → r .block ≡ b
   -- "The listing tests 15, then 11"
   pub listing : (before : List ℕ) (r : Listed) (after : List ℕ) → GivesListing b before r after
       → Test15 b (λ whole. Rules.Exactly (with15 (listingTests (viewOf b) before) whole) (listedIn r after .verdict))
+  pub listing-15 : (before : List ℕ) (r : Listed) (after : List ℕ) → GivesListing b before r after → (listedIn r after .verdict ≡ Failed NotWhole) ↔ (Whole b → ⊥)
+  -- "buffer too short"
+  pub listing-11 : (before : List ℕ) (r : Listed) (after : List ℕ) → GivesListing b before r after
+      → (listedIn r after .verdict ≡ Failed BufferTooShort) ↔ (Whole b × (length before < 2 * length (waiting (viewOf b))))
   pub unwritten : (before : List ℕ) (r : Listed) (after : List ℕ) → GivesListing b before r after → (q : Refusal) → listedIn r after .verdict ≡ Failed q → after ≡ before
   -- "a task's plan, asked of a block, 15, then 7"
   pub plan : (k : ℕ) (r : Planned) → GivesPlan b k r → Test15 b (λ whole. Rules.Exactly (with15 (taskTest (viewOf b .table) k ∷ []) whole) (askedIn (r .answer)))
+  pub plan-15 : (k : ℕ) (r : Planned) → GivesPlan b k r → (askedIn (r .answer) ≡ Failed NotWhole) ↔ (Whole b → ⊥)
+  -- "task 0 or above the table's count"
+  pub plan-7 : (k : ℕ) (r : Planned) → GivesPlan b k r → (askedIn (r .answer) ≡ Failed NoSuchTask) ↔ (Whole b × (InTable (viewOf b .table) k → ⊥))
 
 -- ---- a history: start took a sound table and a reading. Then came calls, any list of them, each on the block that the one before gave
 -- back, refused or not. They were answered as `events` tells, and left the block `b`.

@@ -10,7 +10,7 @@ use denote.Enum.Declared.{tagOf}
 use Rattle.laws.specs.Words.{pick}
 use Rattle.rules.specs.Numbers.{Refusal, Failed, longest, numberIn, givenWith}
 use Rattle.rules.specs.Records.{streamOf}
-use Rattle.rules.proofs.Readable.{stream-numbers, up-to-near}
+use Rattle.rules.proofs.Readable.{stream-numbers}
 use Rattle.stream.specs.declared.Stream.{Stream}
 use Rattle.stream.specs.declared.Stream.the-variants as Stream
 use Rattle.stream.specs.Answer.{streamIn}
@@ -50,6 +50,6 @@ not-readable Stream.TooLong h = (_, refl)
 
 pub offset-small : (s : List ℕ) (t : Stream) → streamIn t ≡ streamOf s → givenWith (streamIn t) ≤ longest
 offset-small s Stream.Readable e = omega arith
-offset-small s (Stream.Unreadable n) e = let w = stream-numbers s .number-12 n .0 (sym e) in omega (arith, w .0, up-to-near s n (w .1))
-offset-small s (Stream.TaskBehindEvent n) e = let w = stream-numbers s .number-13 n .0 (sym e) in omega (arith, w .0, up-to-near s n (w .1))
+offset-small s (Stream.Unreadable n) e = let w = stream-numbers s .number-12 n .0 (sym e) in omega (arith, w .0, w .2)
+offset-small s (Stream.TaskBehindEvent n) e = let w = stream-numbers s .number-13 n .0 (sym e) in omega (arith, w .0, w .2 .within)
 offset-small s Stream.TooLong e = omega arith
