@@ -1,4 +1,5 @@
 -- "A block is whole when", condition by condition, in the paper's order and words, over the block's fields. Its last reading may be anything.
+-- (Two pairs of conditions, those of the table and those of release times, are records of queue's specs/Asked: the crates below ask for them.)
 use Prim.Native.Nat.{ℕ, suc, _≤_, _<_}
 use mathlib.Core.Path.{_≡_}
 use mathlib.Core.List.{List, []}
