@@ -31,12 +31,35 @@ pub fn clock(block: &mut Block, reading: u32) -> Answer
     called.answer
 }
 
-// The address form on a block of its own, for callers that hold a block by value.
+// ---- the same on a block of its own, for callers that hold a block by value
+
 pub fn release_through(block: Block, reading: u32, task: TaskNo) -> Called
     ensures { λ r. ⌜ Gives block (Release reading (task .0)) r ⌝ }
 {
     let mut kept = block;
     let answer = release(&mut kept, reading, task);
+    Called {
+        answer,
+        block: kept,
+    }
+}
+
+pub fn done_through(block: Block, reading: u32, task: TaskNo) -> Called
+    ensures { λ r. ⌜ Gives block (Done reading (task .0)) r ⌝ }
+{
+    let mut kept = block;
+    let answer = done(&mut kept, reading, task);
+    Called {
+        answer,
+        block: kept,
+    }
+}
+
+pub fn clock_through(block: Block, reading: u32) -> Called
+    ensures { λ r. ⌜ Gives block (Clock reading) r ⌝ }
+{
+    let mut kept = block;
+    let answer = clock(&mut kept, reading);
     Called {
         answer,
         block: kept,
