@@ -10,25 +10,25 @@ use kernel::TaskNo;
 pub fn release(block: &mut Block, reading: u32, task: TaskNo) -> Answer
     ensures { λ r. ⌜ Gives (now (block .entry)) (Release reading (task .0)) (record { answer = r; block = now (block .exit) }) ⌝ }
 {
-    let called = (*block).release(reading, task);
-    *block = called.block;
-    called.answer
+    let released = (*block).release(reading, task);
+    *block = released.block;
+    released.answer
 }
 
 pub fn done(block: &mut Block, reading: u32, task: TaskNo) -> Answer
     ensures { λ r. ⌜ Gives (now (block .entry)) (Done reading (task .0)) (record { answer = r; block = now (block .exit) }) ⌝ }
 {
-    let called = (*block).done(reading, task);
-    *block = called.block;
-    called.answer
+    let ended = (*block).done(reading, task);
+    *block = ended.block;
+    ended.answer
 }
 
 pub fn clock(block: &mut Block, reading: u32) -> Answer
     ensures { λ r. ⌜ Gives (now (block .entry)) (Clock reading) (record { answer = r; block = now (block .exit) }) ⌝ }
 {
-    let called = (*block).clock(reading);
-    *block = called.block;
-    called.answer
+    let moved = (*block).clock(reading);
+    *block = moved.block;
+    moved.answer
 }
 
 // ---- the same on a block of its own, for callers that hold a block by value
