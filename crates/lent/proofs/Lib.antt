@@ -1,4 +1,5 @@
 -- Laws of the calls by address.
+pub mod Beside
 pub mod Through
 pub mod Parts
 pub mod Shapes

@@ -65,7 +65,7 @@ with-two τa τb ν ρ τ₂ τ₃ f = record {
 }
 
 -- a place whose local is known by an equation
-found : {M : Type 1} {𝓤 : URA M} {H : Heap 𝓤} {A : Atoms 𝓤} {K : Type 0} {W : Given 𝓤 H A} {Γ : List (Item 𝓤)} {E : Env 𝓤 H} → K → {i : ℕ} {st : List PlaceStep} {at sp : Spot 𝓤 H}
+pub found : {M : Type 1} {𝓤 : URA M} {H : Heap 𝓤} {A : Atoms 𝓤} {K : Type 0} {W : Given 𝓤 H A} {Γ : List (Item 𝓤)} {E : Env 𝓤 H} → K → {i : ℕ} {st : List PlaceStep} {at sp : Spot 𝓤 H}
     → spotOf 𝓤 H E i ≡ at → Walks K W Γ E at st sp → Finds K W Γ E (place i st) sp
 found {𝓤 = 𝓤} {H} {A} {K} {W} {Γ} {E} t {i} {st} {at} {sp} e w = from t (subst (λ (z : Spot 𝓤 H). Walks K W Γ E z st sp) (sym e) w)
 

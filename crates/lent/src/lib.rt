@@ -10,33 +10,56 @@ use kernel::TaskNo;
 pub fn release(block: &mut Block, reading: u32, task: TaskNo) -> Answer
     ensures { λ r. ⌜ Gives (now (block .entry)) (Release reading (task .0)) (record { answer = r; block = now (block .exit) }) ⌝ }
 {
-    let called = (*block).release(reading, task);
-    *block = called.block;
-    called.answer
+    let released = (*block).release(reading, task);
+    *block = released.block;
+    released.answer
 }
 
 pub fn done(block: &mut Block, reading: u32, task: TaskNo) -> Answer
     ensures { λ r. ⌜ Gives (now (block .entry)) (Done reading (task .0)) (record { answer = r; block = now (block .exit) }) ⌝ }
 {
-    let called = (*block).done(reading, task);
-    *block = called.block;
-    called.answer
+    let ended = (*block).done(reading, task);
+    *block = ended.block;
+    ended.answer
 }
 
 pub fn clock(block: &mut Block, reading: u32) -> Answer
     ensures { λ r. ⌜ Gives (now (block .entry)) (Clock reading) (record { answer = r; block = now (block .exit) }) ⌝ }
 {
-    let called = (*block).clock(reading);
-    *block = called.block;
-    called.answer
+    let moved = (*block).clock(reading);
+    *block = moved.block;
+    moved.answer
 }
 
-// The address form on a block of its own, for callers that hold a block by value.
+// ---- the same on a block of its own, for callers that hold a block by value
+
 pub fn release_through(block: Block, reading: u32, task: TaskNo) -> Called
     ensures { λ r. ⌜ Gives block (Release reading (task .0)) r ⌝ }
 {
     let mut kept = block;
     let answer = release(&mut kept, reading, task);
+    Called {
+        answer,
+        block: kept,
+    }
+}
+
+pub fn done_through(block: Block, reading: u32, task: TaskNo) -> Called
+    ensures { λ r. ⌜ Gives block (Done reading (task .0)) r ⌝ }
+{
+    let mut kept = block;
+    let answer = done(&mut kept, reading, task);
+    Called {
+        answer,
+        block: kept,
+    }
+}
+
+pub fn clock_through(block: Block, reading: u32) -> Called
+    ensures { λ r. ⌜ Gives block (Clock reading) r ⌝ }
+{
+    let mut kept = block;
+    let answer = clock(&mut kept, reading);
     Called {
         answer,
         block: kept,
