@@ -32,7 +32,7 @@ FUNCTION = re.compile(r'^ *(?:pub )?(?:extern "C" )?fn (\w+)\((?:[^{]|\n)*?-> [^
 # The same said again: of a state, of a block's fields and of a block; of the rules and of the block.
 AGAIN = {"Whole", "Demand1", "Demands"}
 # The rules' types that the code has too, under the same name.
-TWINS = {"Answer", "Event", "Found", "Job", "Last", "Margin", "Point", "Ready", "Record", "Refusal", "Task", "Verdict"}
+TWINS = {"Answer", "Call", "Found", "Job", "Last", "Margin", "Point", "Ready", "Record", "Refusal", "Task", "Verdict"}
 
 
 def lines(path):

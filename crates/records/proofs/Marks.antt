@@ -11,7 +11,7 @@ use Rattle.laws.specs.Words.{pick}
 use Rattle.rules.specs.Records.{word, Found, Bad, foundBy, recordAt}
 use Rattle.records.specs.declared.Mark.{Mark}
 use Rattle.records.specs.declared.Mark.the-variants as Mark
-use Rattle.records.specs.declared.Event.the-variants as Event
+use Rattle.records.specs.declared.Call.the-variants as Call
 use Rattle.records.specs.declared.Record.the-variants as Record
 use Rattle.records.specs.Read.{readAs, markIn, sizeIn, saysIn}
 
@@ -85,11 +85,11 @@ module _ (s : List ℕ) (at : ℕ) (m : Mark) {size : ℕ} (n : size ≡ sizeIn 
   says-task e p q r = rw (n, e, p, q, r)
 
   module _ {reading : ℕ} (p : reading ≡ word s (at + 2)) where
-    pub says-release : m ≡ Mark.Release → readAs (Record.Event (Event.Release reading (record { 0 = getD s (at + 6) 0 }))) size ≡ saysIn s at m
+    pub says-release : m ≡ Mark.Release → readAs (Record.Event (Call.Release reading (record { 0 = getD s (at + 6) 0 }))) size ≡ saysIn s at m
     says-release e = rw (n, e, p)
 
-    pub says-done : m ≡ Mark.Done → readAs (Record.Event (Event.Done reading (record { 0 = getD s (at + 6) 0 }))) size ≡ saysIn s at m
+    pub says-done : m ≡ Mark.Done → readAs (Record.Event (Call.Done reading (record { 0 = getD s (at + 6) 0 }))) size ≡ saysIn s at m
     says-done e = rw (n, e, p)
 
-    pub says-clock : m ≡ Mark.Clock → readAs (Record.Event (Event.Clock reading)) size ≡ saysIn s at m
+    pub says-clock : m ≡ Mark.Clock → readAs (Record.Event (Call.Clock reading)) size ≡ saysIn s at m
     says-clock e = rw (n, e, p)

@@ -5,8 +5,8 @@ use Prim.Native.Nat.{ℕ}
 use denote.Ref.{RefT}
 use Rattle.rules.specs.Calls as Calls
 use Rattle.rules.specs.Records as Rules
-use Rattle.records.specs.declared.Event.{Event}
-use Rattle.records.specs.declared.Event.the-variants as Event
+use Rattle.records.specs.declared.Call.{Call}
+use Rattle.records.specs.declared.Call.the-variants as Call
 use Rattle.records.specs.declared.Record.{Record}
 use Rattle.records.specs.declared.Record.the-variants as Record
 use Rattle.records.specs.declared.Found.{Found}
@@ -16,15 +16,15 @@ use Rattle.records.specs.Read.{callIn, recordIn, foundIn}
 
 -- ---- a call is an event, and only one
 
-abbrev eventBy : Calls.Call → Event
-eventBy (Calls.Release reading task) = Event.Release reading (record { 0 = task })
-eventBy (Calls.Done reading task) = Event.Done reading (record { 0 = task })
-eventBy (Calls.Clock reading) = Event.Clock reading
+abbrev eventBy : Calls.Call → Call
+eventBy (Calls.Release reading task) = Call.Release reading (record { 0 = task })
+eventBy (Calls.Done reading task) = Call.Done reading (record { 0 = task })
+eventBy (Calls.Clock reading) = Call.Clock reading
 
-event-same : (a : Event) → eventBy (callIn a) ≡ a
-event-same (Event.Release reading task) = refl
-event-same (Event.Done reading task) = refl
-event-same (Event.Clock reading) = refl
+event-same : (a : Call) → eventBy (callIn a) ≡ a
+event-same (Call.Release reading task) = refl
+event-same (Call.Done reading task) = refl
+event-same (Call.Clock reading) = refl
 
 -- ---- and so are a record, and what was found
 

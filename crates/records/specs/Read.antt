@@ -7,17 +7,17 @@ use Rattle.rules.specs.Records as Rules
 use Rattle.table.specs.Stored.{taskOf}
 use Rattle.records.specs.declared.Mark.{Mark}
 use Rattle.records.specs.declared.Mark.the-variants as Mark
-use Rattle.records.specs.declared.Event.{Event}
-use Rattle.records.specs.declared.Event.the-variants as Event
+use Rattle.records.specs.declared.Call.{Call}
+use Rattle.records.specs.declared.Call.the-variants as Call
 use Rattle.records.specs.declared.Record.{Record}
 use Rattle.records.specs.declared.Record.the-variants as Record
 use Rattle.records.specs.declared.Found.{Found}
 use Rattle.records.specs.declared.Found.the-variants as Found
 
-abbrev pub callIn : Event → Calls.Call
-callIn (Event.Release reading task) = Calls.Release reading (task .0)
-callIn (Event.Done reading task) = Calls.Done reading (task .0)
-callIn (Event.Clock reading) = Calls.Clock reading
+abbrev pub callIn : Call → Calls.Call
+callIn (Call.Release reading task) = Calls.Release reading (task .0)
+callIn (Call.Done reading task) = Calls.Done reading (task .0)
+callIn (Call.Clock reading) = Calls.Clock reading
 
 abbrev pub recordIn : Record → Rules.Record
 recordIn (Record.Task x) = Rules.TaskRecord (taskOf x)

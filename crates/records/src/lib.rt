@@ -23,8 +23,8 @@ enum Mark {
     Unknown,
 }
 
-// An event is a call.
-pub enum Event {
+// "calls (release, done, clock)": what an event record says.
+pub enum Call {
     Release { reading: u32, task: TaskNo },
     Done { reading: u32, task: TaskNo },
     Clock { reading: u32 },
@@ -32,7 +32,7 @@ pub enum Event {
 
 pub enum Record {
     Task(Task),
-    Event(Event),
+    Event(Call),
 }
 
 // What stands at a place: the stream's end, a record of so many bytes, or an unknown mark or a record cut off.
@@ -89,16 +89,16 @@ fn body_at(stream: &[u8], at: usize, mark: Mark, size: usize) -> Found
         Mark::Release => {
             let reading = word_at(stream, at + 2);
             let task = TaskNo(stream[at + 6]);
-            Found::Read(Record::Event(Event::Release { reading, task }), size)
+            Found::Read(Record::Event(Call::Release { reading, task }), size)
         }
         Mark::Done => {
             let reading = word_at(stream, at + 2);
             let task = TaskNo(stream[at + 6]);
-            Found::Read(Record::Event(Event::Done { reading, task }), size)
+            Found::Read(Record::Event(Call::Done { reading, task }), size)
         }
         Mark::Clock => {
             let reading = word_at(stream, at + 2);
-            Found::Read(Record::Event(Event::Clock { reading }), size)
+            Found::Read(Record::Event(Call::Clock { reading }), size)
         }
         Mark::Unknown => Found::Bad,
     }

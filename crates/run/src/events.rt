@@ -24,7 +24,7 @@ use kernel::TaskNo;
 use levels::first_level;
 use lines::Shown;
 use lines::event_line;
-use records::Event;
+use records::Call;
 use records::Found;
 use records::Record;
 use records::read;
@@ -57,13 +57,13 @@ fn totals_of(progress: Progress) -> Totals
 }
 
 // The call that an event is.
-fn call(block: Block, event: Event) -> Called
+fn call(block: Block, event: Call) -> Called
     ensures { λ r. ⌜ Gives block (callIn event) r ⌝ }
 {
     match event {
-        Event::Release { reading, task } => block.release(reading, task),
-        Event::Done { reading, task } => block.done(reading, task),
-        Event::Clock { reading } => block.clock(reading),
+        Call::Release { reading, task } => block.release(reading, task),
+        Call::Done { reading, task } => block.done(reading, task),
+        Call::Clock { reading } => block.clock(reading),
     }
 }
 
@@ -104,17 +104,17 @@ fn shown(count: u64, called: Called) -> Shown
 }
 
 // What an event adds to the bound of demand 3: an accepted release "the released task's first level less one", any other nothing.
-fn bound_by(tasks: Tasks, event: Event, answer: Answer) -> u64
+fn bound_by(tasks: Tasks, event: Call, answer: Answer) -> u64
     requires { ⌜ Boundable tasks (callIn event) (answerIn answer) ⌝ }
     ensures { λ r. ⌜ (r ≡ boundBy (tableOf (tasks .table)) (callIn event) (answerIn answer)) × (r ≤ 256) ⌝ }
 {
     match event {
-        Event::Done {
+        Call::Done {
             reading: _,
             task: _,
         } => 0,
-        Event::Clock { reading: _ } => 0,
-        Event::Release { reading: _, task } => match answer {
+        Call::Clock { reading: _ } => 0,
+        Call::Release { reading: _, task } => match answer {
             Answer::Refused(_) => 0,
             Answer::Accepted {
                 running: _,
@@ -138,7 +138,7 @@ fn first_less_one(tasks: Tasks, task: TaskNo) -> u64
 }
 
 // One event: its call, its line, and what it adds to the totals.
-fn event(progress: Progress, event: Event, out: &mut [u8]) -> Progress
+fn event(progress: Progress, event: Call, out: &mut [u8]) -> Progress
     requires { ⌜ Begins progress × (progress .place + eventRoom ≤ length (now out)) ⌝ }
     ensures { λ r. ⌜ Steps progress (callIn event) (now (out .entry)) r (now (out .exit)) ⌝ }
 {
