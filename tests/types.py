@@ -13,7 +13,7 @@ import sys
 import tempfile
 
 ROOT = pathlib.Path(__file__).resolve().parent.parent
-# crate, file, what stands there, what it is made, and the two types of the error: in lists, in the listing, in a plan
+# crate, file, what stands there, what it is made, and the two types of the error: in lists, in the listing, in a plan, of the table
 EXCHANGES = [
     ("ready", "src/lib.rt", "lists.push_front(level, task)", "lists.push_front(task, level)", ("Level", "TaskNo")),
     ("lists", "src/walk.rt", "self.list_into(Level(level), buffer, at)", "self.list_into(table::TaskNo(level), buffer, at)", ("Level", "TaskNo")),

@@ -69,10 +69,10 @@ task-made : Makes 𝓤 H atoms TaskNo.the-row (Is TaskNo.the-row)
 task-made = makes TaskNo.the-type TaskNo′.the-plain 𝓤 H atoms
 
 -- a reading has 32 bits, and a task number is a byte
-abbrev pub Fits : Call → Type 0
-Fits (Release n k) = (n < 2 ^ 32) × (k < 2 ^ 8)
-Fits (Done n k) = (n < 2 ^ 32) × (k < 2 ^ 8)
-Fits (Clock n) = n < 2 ^ 32
+abbrev pub CallFits : Call → Type 0
+CallFits (Release n k) = (n < 2 ^ 32) × (k < 2 ^ 8)
+CallFits (Done n k) = (n < 2 ^ 32) × (k < 2 ^ 8)
+CallFits (Clock n) = n < 2 ^ 32
 
 -- ---- the calls
 
@@ -89,7 +89,7 @@ task-answered P ρ met b (u, p) n k (l, m) =
     (block-made, (reading-made, (task-made, tt))) (p, ((refl, l), (owes TaskNo.the-type TaskNo′.the-laws task ((refl, m), tt), tt))) (P b n k)
     (λ r e. id⊢ 𝓤 (fact 𝓤 (P b n k r)))
 
-pub call-answered : (b : Block) → OfType Block.the-row b → (c : Call) → Fits c → ∥ ((r : Called) × OfType Called.the-row r × Gives b c r) ∥₁
+pub call-answered : (b : Block) → OfType Block.the-row b → (c : Call) → CallFits c → ∥ ((r : Called) × OfType Called.the-row r × Gives b c r) ∥₁
 call-answered b o (Release n k) f =
     task-answered (λ (x : Block) (i j : ℕ). Gives x (Release i j)) release-code.routine (release-met.met 𝓤 H model ghost₀ running) b o n k f
 call-answered b o (Done n k) f = task-answered (λ (x : Block) (i j : ℕ). Gives x (Done i j)) done-code.routine (done-met.met 𝓤 H model ghost₀ running) b o n k f
@@ -112,7 +112,7 @@ start-answered table (u, p) n l =
 one-value : (T : Declared) (d : T .D) (vs : List Val) → Is (row T) d vs → OfType (row T) d
 one-value T d vs p = (vstruct (ofList (flat (fields T) (p .0))), subst (Is (row T) d) (p .1 .0) p)
 
-leads-answered : (b : Block) → OfType Block.the-row b → (cs : List Call) → All Fits cs
+leads-answered : (b : Block) → OfType Block.the-row b → (cs : List Call) → All CallFits cs
     → ∥ ((es : List Event) × (last : Block) × Leads Gives said (λ (r : Called). r .block) b cs es last) ∥₁
 leads-answered b o [] f = ∣ ([], b, (refl, refl)) ∣₁
 leads-answered b o (c ∷ cs) (f, fs) =
@@ -121,7 +121,7 @@ leads-answered b o (c ∷ cs) (f, fs) =
     (λ (es, last, l). (record { call = c; answer = said r } ∷ es, last, (r, g, es, refl, l))))
 
 -- every sound table, every reading of its start and every list of calls has a history
-pub history-answered : (table : Table) → OfType Table.the-row table → verdictOf (tableOf table) ≡ Passed → (n : ℕ) → n < 2 ^ 32 → (cs : List Call) → All Fits cs
+pub history-answered : (table : Table) → OfType Table.the-row table → verdictOf (tableOf table) ≡ Passed → (n : ℕ) → n < 2 ^ 32 → (cs : List Call) → All CallFits cs
     → ∥ ((es : List Event) × (b : Block) × History table n cs es b) ∥₁
 history-answered table (u, p) sound n l cs f =
     ∥∥₁-elim (start-answered table (u, p) n l) ∥∥₁-prop

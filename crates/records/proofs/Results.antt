@@ -16,25 +16,25 @@ use Rattle.records.specs.Read.{callIn, recordIn, foundIn}
 
 -- ---- a call is an event, and only one
 
-abbrev eventBy : Calls.Call → Call
-eventBy (Calls.Release reading task) = Call.Release reading (record { 0 = task })
-eventBy (Calls.Done reading task) = Call.Done reading (record { 0 = task })
-eventBy (Calls.Clock reading) = Call.Clock reading
+abbrev callFor : Calls.Call → Call
+callFor (Calls.Release reading task) = Call.Release reading (record { 0 = task })
+callFor (Calls.Done reading task) = Call.Done reading (record { 0 = task })
+callFor (Calls.Clock reading) = Call.Clock reading
 
-event-same : (a : Call) → eventBy (callIn a) ≡ a
-event-same (Call.Release reading task) = refl
-event-same (Call.Done reading task) = refl
-event-same (Call.Clock reading) = refl
+call-same : (a : Call) → callFor (callIn a) ≡ a
+call-same (Call.Release reading task) = refl
+call-same (Call.Done reading task) = refl
+call-same (Call.Clock reading) = refl
 
 -- ---- and so are a record, and what was found
 
 abbrev recordBy : Rules.Record → Record
 recordBy (Rules.TaskRecord x) = Record.Task (record { c = x .c; d = x .d; t = x .t })
-recordBy (Rules.EventRecord c) = Record.Event (eventBy c)
+recordBy (Rules.EventRecord c) = Record.Event (callFor c)
 
 record-same : (a : Record) → recordBy (recordIn a) ≡ a
 record-same (Record.Task x) = refl
-record-same (Record.Event e) = ap Record.Event (event-same e)
+record-same (Record.Event e) = ap Record.Event (call-same e)
 
 abbrev foundBy : Rules.Found → Found
 foundBy Rules.End = Found.End

@@ -11,9 +11,8 @@ use Rattle.laws.specs.Words.{pick, In}
 use Rattle.laws.proofs.Bools.{both-true, false-not, either}
 use Rattle.rules.specs.Table.{Task}
 use Rattle.rules.specs.Calls.{Call}
-use Rattle.rules.specs.Records.{Record, TaskRecord, EventRecord, Mark, taskMark, releaseMark, doneMark, clockMark, marks, Found, End, Read, Bad, hasMark, readBy, wholeOrCut, foundBy, recordAt, Item, itemsFrom}
-use Rattle.rules.specs.Refusals.{HasMark, RecordOf, UnknownMark, CutOff, RecordsTo}
-use Rattle.rules.proofs.Streams.{items-end, items-read}
+use Rattle.rules.specs.Records.{Record, TaskRecord, EventRecord, Mark, taskMark, releaseMark, doneMark, clockMark, marks, Found, End, Read, Bad, hasMark, readBy, wholeOrCut, foundBy, recordAt}
+use Rattle.rules.specs.Refusals.{HasMark, RecordOf, UnknownMark, CutOff}
 
 -- ---- the table of marks
 
@@ -31,8 +30,9 @@ task-or-event = each-mark (λ m. (m ≡ taskMark) ⊎ (m ≡ taskMark → ⊥)) 
     differs : {m : Mark} → (m .second ≡ 75 → ⊥) → m ≡ taskMark → ⊥
     differs h e = h (ap (λ (x : Mark). x .second) e)
 
-pub some-bytes : (m : Mark) → In m marks → 1 ≤ m .size
-some-bytes = each-mark (λ m. 1 ≤ m .size) (omega arith) (omega arith) (omega arith) (omega arith)
+-- each mark's record has at least six bytes
+pub six-bytes : (m : Mark) → In m marks → 6 ≤ m .size
+six-bytes = each-mark (λ m. 6 ≤ m .size) (omega arith) (omega arith) (omega arith) (omega arith)
 
 -- the mark with this second byte: no two of the table have the same
 abbrev markBy : ℕ → Mark
@@ -80,7 +80,7 @@ module _ (s : List ℕ) (n : ℕ) where
   pub read-at : (m : Mark) → RecordOf s n m → recordAt s n ≡ readBy s n m
   read-at m r =
       record-cases (λ f. f ≡ readBy s n m)
-      (λ e. let w : n + m .size ≤ length s = r .within in let z : ⊥ = omega (arith, some-bytes m (r .known)) in absurd z)
+      (λ e. let w : n + m .size ≤ length s = r .within in let z : ⊥ = omega (arith, six-bytes m (r .known)) in absurd z)
       (λ k l q. ap (readBy s n) (one-mark k m (q .known) (r .known) (q .mark) (r .mark))) (λ l b. read-or-bad m r b)
 
   pub bad-at : n < length s → UnknownMark s n ⊎ CutOff s n → recordAt s n ≡ Bad
@@ -96,16 +96,3 @@ module _ (s : List ℕ) (n : ℕ) where
     where
       says : (c : Call) × (m .says s n ≡ EventRecord c)
       says = each-mark (λ k. (k ≡ taskMark → ⊥) → (c : Call) × (k .says s n ≡ EventRecord c)) (λ f. absurd (f refl)) (λ _. (_, refl)) (λ _. (_, refl)) (λ _. (_, refl)) m (r .known) d
-
--- ---- from place to place
-
--- what records of these marks say
-abbrev pub itemsBy : List ℕ → ℕ → List Mark → List Item
-itemsBy s at [] = []
-itemsBy s at (m ∷ ms) = record { offset = at; found = readBy s at m } ∷ itemsBy s (at + m .size) ms
-
--- where records lead to the end of the stream, they are its records
-pub items-by : (s : List ℕ) (at : ℕ) (ms : List Mark) → RecordsTo s at ms (length s) → itemsFrom s at ≡ itemsBy s at ms
-items-by s at [] e = items-end s at (omega arith)
-items-by s at (m ∷ ms) (r, rest) =
-    items-read s at (m .says s at) (m .size) (read-at s at m r) ∙ ap (λ (xs : List Item). record { offset = at; found = readBy s at m } ∷ xs) (items-by s (at + m .size) ms rest)
