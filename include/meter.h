@@ -13,9 +13,9 @@ extern "C" {
 #endif
 
 enum {
-    METER_BYTES = 967,      /* of a block */
+    METER_BYTES = 1899,     /* of a block */
     METER_ROOM = 2097152,   /* for the runner's longest output */
-    METER_POINTS = 32       /* the most points of a plan; the most tasks of a table */
+    METER_POINTS = 64       /* the most points of a plan; the most tasks of a table */
 };
 
 /* What an accepted call answers. */
@@ -30,7 +30,7 @@ enum {
 /* refusals */
 /* The numbers given back. */
 enum {
-    METER_TABLE_SIZE = 1,          /* table empty or above 32 tasks */
+    METER_TABLE_SIZE = 1,          /* table empty or above 64 tasks */
     METER_OUT_OF_RANGE = 2,        /* C, D or T out of range */
     METER_OUT_OF_ORDER = 3,        /* not C <= D <= T */
     METER_OVERLOAD = 4,            /* load above 1000 */

@@ -12,7 +12,7 @@ import sys
 from typing import NamedTuple, Optional
 
 LONGEST = 65536       # bytes of input
-MOST = 32             # tasks
+MOST = 64             # tasks
 LARGEST = 2 ** 30     # C, D and T
 LAST_TICK = 2 ** 40   # of the clock
 SIZES = {b"TK": 14, b"RL": 7, b"DN": 7, b"TM": 6}

@@ -2,10 +2,11 @@
 //! refused call leaves every byte.
 
 use crate::judge;
-use crate::library::{self, Block, Points, BLOCK_BYTES};
+use crate::library::{self, Points};
 use crate::model::{table_tests, Call, Kernel, Task, MOST};
 use crate::random::Dice;
 use crate::sequences::{sequence, spoilt_table, Sequence};
+use crate::stored::{Block, BLOCK_BYTES};
 use crate::streams::{told, written};
 
 const UNTOUCHED: u8 = 0xa5;

@@ -4,16 +4,16 @@
 
 use crate::calls::{call_agrees, fifteen, listing_agrees, plan_agrees, start_agrees};
 use crate::judge::kernel_of;
-use crate::library::{self, Block, BLOCK_BYTES};
+use crate::library;
 use crate::model::{Call, Kernel, MOST};
 use crate::random::Dice;
 use crate::sequences::{sequence_of, sound_table_of};
-use crate::stored::{JOB_BYTES, RUNNING_AT, TABLE_BYTES};
+use crate::stored::{Block, BLOCK_BYTES, JOB_BYTES, RUNNING_AT, TABLE_BYTES};
 
 /// Besides the bits: so many other damages a block.
 const OTHERS: usize = 500;
 
-/// A whole block from a random sequence: of few tasks or of 32, empty or crowded.
+/// A whole block from a random sequence: of few tasks or of as many as can be, empty or crowded.
 fn block(dice: &mut Dice) -> Result<(Block, Kernel), String> {
     let count = if dice.percent(50) { MOST as u64 } else { dice.between(1, 8) };
     let table = sound_table_of(dice, count);

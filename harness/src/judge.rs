@@ -1,8 +1,7 @@
 //! "A block is whole when", condition by condition, over a block's bytes; and the model's kernel that a whole block stands for.
 
-use crate::library::Block;
 use crate::model::{level, tests_1_to_3, Job, Kernel, Task, LAST_TICK};
-use crate::stored::{self, Stored, PLACES, TABLE_BYTES};
+use crate::stored::{self, Block, Stored, PLACES, TABLE_BYTES};
 
 /// The kernel that a block stands for: there is one exactly where the block is whole.
 pub fn kernel_of(block: &Block) -> Option<Kernel> {

@@ -2,9 +2,6 @@
 
 use crate::model::{Answer, Call, MOST};
 
-/// The bytes of a block.
-pub const BLOCK_BYTES: usize = 967;
-pub type Block = [u8; BLOCK_BYTES];
 /// The running task or 0; the moves; 0 where there is no margin, 1 where it is 0 or more, 2 where it is less; its ticks.
 type Numbers = [u64; 4];
 /// Of each point the ticks after the release, and the level.

@@ -1,7 +1,7 @@
 //! The paper, written apart from the kernel. No lists, links or maps: the unfinished jobs are one sorted vector, the first of them runs,
 //! the others wait; levels are counted from the table.
 
-pub const MOST: usize = 32;
+pub const MOST: usize = 64;
 pub const LARGEST: u32 = 1 << 30;
 pub const LAST_TICK: u64 = 1 << 40;
 

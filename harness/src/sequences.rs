@@ -41,7 +41,7 @@ fn sound_table(dice: &mut Dice) -> Vec<Task> {
         0 => 1,
         1..=11 => dice.between(2, 5),
         12..=15 => dice.between(6, 16),
-        16..=17 => dice.between(17, 32),
+        16..=17 => dice.between(17, MOST as u64 - 1),
         _ => MOST as u64,
     };
     sound_table_of(dice, count)
@@ -54,7 +54,7 @@ pub fn spoilt_table(dice: &mut Dice) -> Vec<Task> {
     let value = dice.one_of(&[0, 1, 2, LARGEST, LARGEST + 1, u32::MAX]);
     match dice.below(6) {
         0 => table.clear(),
-        1 => table.resize(dice.between(32, 40) as usize, table[at]),
+        1 => table.resize(dice.between(MOST as u64 - 1, MOST as u64 + 8) as usize, table[at]),
         2 => table[at].c = value,
         3 => table[at].d = value,
         4 => table[at].t = value,

@@ -1,6 +1,5 @@
 //! What the bytes of a block say, field by field. Numbers are little-endian.
 
-use crate::library::{Block, BLOCK_BYTES};
 use crate::model::{Task, MOST};
 
 /// The count, the tasks and the copy of the deadlines stand first.
@@ -10,6 +9,9 @@ pub const PLACES: usize = MOST + 1;
 /// Jobs stand behind the copy, and who runs behind the jobs.
 pub const JOB_BYTES: usize = 10;
 pub const RUNNING_AT: usize = TABLE_BYTES + JOB_BYTES * PLACES;
+/// Behind who runs: first, last and link of each place, the map, the clock, the last reading.
+pub const BLOCK_BYTES: usize = RUNNING_AT + 2 + 3 * PLACES + 8 + 8 + 4;
+pub type Block = [u8; BLOCK_BYTES];
 
 #[derive(Clone, Copy, PartialEq)]
 pub struct Job {
@@ -26,7 +28,7 @@ pub struct Stored {
     pub first: [u8; PLACES],
     pub last: [u8; PLACES],
     pub next: [u8; PLACES],
-    pub map: u32,
+    pub map: u64,
     pub clock: u64,
     pub reading: u32,
 }
@@ -80,7 +82,7 @@ impl Stored {
             first: fields.take(),
             last: fields.take(),
             next: fields.take(),
-            map: fields.word(),
+            map: fields.long(),
             clock: fields.long(),
             reading: fields.word(),
         };

@@ -82,7 +82,7 @@ tasks-codec =
 stored-codec : Codec StoredFits storedBytes storedFrom storedSize
 stored-codec =
     let places = array task-no-codec (most + 1) in
-    let four = then (then (then places places) places) word-codec in
+    let four = then (then (then places places) places) long-word-codec in
     record {
       long = λ x f. four .long (((x .first, x .last), x .next), x .map) (((f .first, f .last), f .next), f .map);
       kept =

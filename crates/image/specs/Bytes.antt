@@ -57,7 +57,7 @@ abbrev pub tasksBytes : Tasks → List ℕ
 tasksBytes x = little 8 (x .table .count) ++ allBytes taskBytes (x .table .tasks) ++ allBytes (little 4) (x .rising)
 
 abbrev pub storedBytes : Stored → List ℕ
-storedBytes x = allBytes taskNoBytes (x .first) ++ allBytes taskNoBytes (x .last) ++ allBytes taskNoBytes (x .next) ++ little 4 (x .map)
+storedBytes x = allBytes taskNoBytes (x .first) ++ allBytes taskNoBytes (x .last) ++ allBytes taskNoBytes (x .next) ++ little 8 (x .map)
 
 abbrev pub readyBytes : Ready → List ℕ
 readyBytes x = whoBytes (x .running) ++ storedBytes (storedOf (x .lists))
@@ -111,7 +111,7 @@ storedFrom s at =
       first = allFrom (taskNoFrom s) 1 at (most + 1);
       last = allFrom (taskNoFrom s) 1 (at + (most + 1)) (most + 1);
       next = allFrom (taskNoFrom s) 1 (at + 2 * (most + 1)) (most + 1);
-      map = word s (at + 3 * (most + 1));
+      map = longWord s (at + 3 * (most + 1));
     }
 
 abbrev pub readyFrom : List ℕ → ℕ → Ready
@@ -125,7 +125,7 @@ abbrev pub tasksSize : ℕ
 tasksSize = 8 + 12 * most + 4 * most
 
 abbrev pub storedSize : ℕ
-storedSize = 3 * (most + 1) + 4
+storedSize = 3 * (most + 1) + 8
 
 abbrev pub readySize : ℕ
 readySize = 2 + storedSize
@@ -190,7 +190,7 @@ pub record StoredFits (x : Stored) : Type 0 where
   pub first : Array (most + 1) TaskNoFits (x .first)
   pub last : Array (most + 1) TaskNoFits (x .last)
   pub next : Array (most + 1) TaskNoFits (x .next)
-  pub map : Small 4 (x .map)
+  pub map : Small 8 (x .map)
 
 pub record Fits (b : Block) : Type 0 where
   pub tasks : TasksFit (b .tasks)

@@ -7,7 +7,7 @@
 //     jobs               MOST + 1 of: active 1 (0: not), released 1 (0: never), time 8
 //     running            2: whether one runs (0: nobody), and its task
 //     first, last, next  MOST + 1 tasks each        1
-//     map                4
+//     map                8
 //     clock              8
 //     last reading       4
 //
@@ -38,7 +38,7 @@ const JOBS: usize = 8 + 12 * MOST + 4 * MOST;
 
 const READY: usize = JOBS + 10 * PLACES;
 
-const NOW: usize = READY + 2 + 3 * PLACES + 4;
+const NOW: usize = READY + 2 + 3 * PLACES + 8;
 
 // How many bytes a block has.
 pub const BLOCK_BYTES: usize = NOW + 12;

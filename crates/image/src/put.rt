@@ -144,7 +144,7 @@ fn put_stored(bytes: &mut [u8], at: usize, stored: Stored)
     put_places(bytes, at + PLACES, last);
     let next = stored.next;
     put_places(bytes, at + 2 * PLACES, next);
-    put_little(bytes, at + 3 * PLACES, 4, stored.map as u64);
+    put_little(bytes, at + 3 * PLACES, 8, stored.map);
 }
 
 // Who runs and who waits.

@@ -139,7 +139,7 @@ fn stored_at(bytes: &[u8], at: usize) -> Stored
     let first = places_at(bytes, at);
     let last = places_at(bytes, at + PLACES);
     let next = places_at(bytes, at + 2 * PLACES);
-    let map = word_at(bytes, at + 3 * PLACES);
+    let map = u64_at(bytes, at + 3 * PLACES);
     Stored {
         first,
         last,

@@ -166,11 +166,14 @@ module _ {b : Block} {c : Call} {time : ℕ} (g : Goes b c time) where
 
   -- the lists are those of the new levels, and the moves are counted
   module _ (x : Releveled) (done : Relevels (levelsAt (b .tasks) (b .jobs) time) (b .ready) x) where
+    few : length (s .table) ≤ suc (most - 1)
+    few = omega (arith, passed-to-3 (s .table) (g .whole .tasks-whole .table))
+
     held : Keeps (b .ready) (s .ready)
     held = record { running = refl; stores = lists-held (g .whole .links .stores) }
 
     pub releveled-moves : x .moves ≡ movesOf s time
-    releveled-moves = done .moves (s .ready) held ∙ promotion-moves s state time later (Rules.levelIn s time) (λ j k m. refl) (most - 1) refl
+    releveled-moves = done .moves (s .ready) held ∙ promotion-moves s state time later (Rules.levelIn s time) (λ j k m. refl) (most - 1) few
 
     pub releveled-keeps : Keeps (x .ready) (now .ready)
     releveled-keeps =
@@ -178,7 +181,7 @@ module _ {b : Block} {c : Call} {time : ℕ} (g : Goes b c time) where
         record {
           running = kept .running;
           stores =
-              subst (Stores (x .ready .lists)) (promotion-in-place s state time later (Rules.levelIn s time) (λ j k m. refl) (most - 1) refl) (kept .stores);
+              subst (Stores (x .ready .lists)) (promotion-in-place s state time later (Rules.levelIn s time) (λ j k m. refl) (most - 1) few) (kept .stores);
         }
 
 -- ---- clock: "nothing more"
@@ -266,7 +269,7 @@ module _ {b : Block} {n k time : ℕ} (g : Goes b (Done n k) time) where
 running-absent : (s : Rules.State) → Rules.Whole s → (j : ℕ) → s .ready .running ≡ Rules.One j → Absent j (s .ready .lists)
 running-absent s w j e l m =
     let twice : count (eqb j) (j ∷ Rules.waiting s) ≡ digit (s .active j) = ap (λ (r : Rules.Running). count (eqb j) (Rules.runs r ++ Rules.waiting s)) (sym e) ∙ w .once j in
-    omega (arith, twice, count-cons (eqb j) j (Rules.waiting s), ap digit (eq-eqb j j refl), in-count j (Rules.waiting s) (in-all (s .ready .lists) j l (let r = list-range s w l j m in record { low = r .0; high = r .1 }) m), digit-le (s .active j))
+    omega (arith, twice, count-cons (eqb j) j (Rules.waiting s), ap digit (eq-eqb j j refl), in-count j (Rules.waiting s) (in-all (s .ready .lists) j l (let r = list-range s w l j m in record { low = r .0; high = omega (arith, r .1, passed-to-3 (s .table) (w .table)) }) m), digit-le (s .active j))
 
 module _ {b : Block} {n k time : ℕ} (g : Goes b (Release n k) time) where
   may : MayRelease (viewOf b) k

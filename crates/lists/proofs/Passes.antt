@@ -1,5 +1,5 @@
 -- What the loops over all levels keep, where the lists below level l are passed. Assumes nothing.
-use mathlib.Core.Path.{_≡_, ap}
+use mathlib.Core.Path.{_≡_, ap, subst}
 use mathlib.Core.List.{List, [], _++_}
 use Prim.Native.Nat.{ℕ, suc, _+_, _-_, _≤_, _<_}
 use native.Mathlib.Omega.{arith}
@@ -10,6 +10,8 @@ use Rattle.laws.proofs.Families.{joined-turn, joined-over}
 use Rattle.rules.specs.Table.{most}
 use Rattle.rules.specs.State.{listing}
 use Rattle.rules.specs.Listing.{pairsOf, listingBytes}
+use Rattle.lists.specs.Links.{Waits}
+use Rattle.lists.proofs.Together.{listing-levels, bytes-levels}
 
 -- the lists from level l up
 abbrev from : (ℕ → List ℕ) → ℕ → List ℕ
@@ -22,9 +24,8 @@ pub record Adding (ls : ℕ → List ℕ) (l n : ℕ) : Type 0 where
   pub low : 1 ≤ l
   pub sum : n + length (from ls l) ≡ length (listing ls)
 
-pub adding-start : (ls : ℕ → List ℕ) → Adding ls 1 0
-unfolding listing
-adding-start ls = record { low = omega arith; sum = omega arith }
+pub adding-start : {ls : ℕ → List ℕ} → Waits ls → Adding ls 1 0
+adding-start w = record { low = omega arith; sum = omega (arith, ap length (listing-levels w)) }
 
 module _ {ls : ℕ → List ℕ} {l n : ℕ} (now : Adding ls l n) where
   here : l ≤ most → n + length (ls l) + length (from ls (l + 1)) ≡ length (listing ls)
@@ -50,9 +51,12 @@ pub record Listing (ls : ℕ → List ℕ) (before : List ℕ) (l i : ℕ) (buff
   pub low : 1 ≤ l
   pub filling : Filling before 0 (listingBytes ls) i (from (pairsIn ls) l) buffer
 
-pub listing-start : (ls : ℕ → List ℕ) (before : List ℕ) → Listing ls before 1 0 before
-unfolding listingBytes
-listing-start ls before = record { low = omega arith; filling = filling-start before 0 (listingBytes ls) }
+pub listing-start : {ls : ℕ → List ℕ} → Waits ls → (before : List ℕ) → Listing ls before 1 0 before
+listing-start {ls} w before =
+    record {
+      low = omega arith;
+      filling = subst (λ (rest : List ℕ). Filling before 0 (listingBytes ls) 0 rest before) (bytes-levels w) (filling-start before 0 (listingBytes ls));
+    }
 
 module _ {ls : ℕ → List ℕ} {before : List ℕ} {l i : ℕ} {buffer : List ℕ} (now : Listing ls before l i buffer) where
   split : l ≤ most → from (pairsIn ls) l ≡ pairsIn ls l ++ from (pairsIn ls) (l + 1)

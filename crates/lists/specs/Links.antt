@@ -12,7 +12,7 @@ use Rattle.lists.specs.declared.Lists.{Lists}
 
 -- ---- lists of jobs
 
--- "Task numbers and levels both run from 1 to 32"
+-- "Task numbers and levels both run from 1 to [64]"
 pub record Numbered (k : ℕ) : Type 0 where
   pub low : 1 ≤ k
   pub high : k ≤ most

@@ -39,7 +39,7 @@ pub struct Lists {
     first: [TaskNo; PLACES],
     last: [TaskNo; PLACES],
     next: [TaskNo; PLACES],
-    map: u32,
+    map: u64,
 }
 
 // The arrays and the map, for those who keep a block elsewhere and bring it back; what they hold need not be lists.
@@ -47,7 +47,7 @@ pub struct Stored {
     pub first: [TaskNo; PLACES],
     pub last: [TaskNo; PLACES],
     pub next: [TaskNo; PLACES],
-    pub map: u32,
+    pub map: u64,
 }
 
 // "nobody, or one task"
@@ -80,19 +80,19 @@ pub struct Popped {
 }
 
 // The map with the bit of the level set.
-fn with_bit(map: u32, level: Level) -> u32
+fn with_bit(map: u64, level: Level) -> u64
     requires { ⌜ Numbered (level .0) ⌝ }
     ensures { λ r. ⌜ BitMade map (level .0 - 1) 1 r ⌝ }
 {
-    map | (1u32 << (level.0 - 1))
+    map | (1u64 << (level.0 - 1))
 }
 
 // The map with the bit of the level clear.
-fn without_bit(map: u32, level: Level) -> u32
+fn without_bit(map: u64, level: Level) -> u64
     requires { ⌜ Numbered (level .0) ⌝ }
     ensures { λ r. ⌜ BitMade map (level .0 - 1) 0 r ⌝ }
 {
-    map & !(1u32 << (level.0 - 1))
+    map & !(1u64 << (level.0 - 1))
 }
 
 impl Lists {
@@ -242,7 +242,7 @@ impl Lists {
         if above == 0 {
             return Occupied::Nothing;
         }
-        let zeros = u32::trailing_zeros(above) as u8;
+        let zeros = u64::trailing_zeros(above) as u8;
         let lowest = zeros + level.0;
         Occupied::At(Level(lowest))
     }

@@ -28,6 +28,7 @@ use Rattle.ready.specs.declared.Ready.{Ready}
 use Rattle.ready.specs.Keep.{Keeps, Keeping, Becomes, MayWait, Enterable}
 use Rattle.jobs.proofs.Keeping.{levels-low}
 use Rattle.lists.proofs.LowestLevel.{found-at, nothing-from, level-from}
+use Rattle.lists.proofs.Together.{lowest-levels}
 
 -- ---- meeting the running job
 
@@ -79,7 +80,7 @@ module _ {r : Ready} {found : Occupied} (said : (ls : ℕ → List ℕ) → Stor
   pub leaves-nobody : found ≡ Occupied.Nothing → Becomes r leave (record { running = Who.Nobody; lists = r .lists })
   leaves-nobody e x keeps =
       let none : lowest (x .lists) most 1 ≡ 0 = nothing-from (x .lists) 1 (omega arith) (omega arith) (sym e ∙ said (x .lists) (keeps .stores)) .0 in
-      rw none (record { running = refl; stores = keeps .stores })
+      rw (lowest-levels (keeps .stores .waits), none) (record { running = refl; stores = keeps .stores })
 
   module _ (level : Level) (e : found ≡ Occupied.At level) where
     pub leaves-level : Keeping r → (1 ≤ level .0) × (level .0 ≤ most)
@@ -93,4 +94,4 @@ module _ {r : Ready} {found : Occupied} (said : (ls : ℕ → List ℕ) → Stor
         let at = found-at level _ (sym e ∙ said (x .lists) (keeps .stores)) in
         let low : lowest (x .lists) most 1 ≡ level .0 = at .0 in
         let pop = pops (x .lists) (keeps .stores) in
-        rw (low, leave-at (x .lists) (level .0) (omega (arith, at))) (record { running = pop .front; stores = pop .stores })
+        rw (lowest-levels (keeps .stores .waits), low, leave-at (x .lists) (level .0) (omega (arith, at))) (record { running = pop .front; stores = pop .stores })

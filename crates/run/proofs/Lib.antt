@@ -5,3 +5,4 @@ pub mod Planning
 pub mod Along
 pub mod Output
 pub mod Results
+pub mod Former

@@ -12,8 +12,8 @@ use lib.ListN.{length, List·getD-eq-default}
 use Rattle.laws.specs.Words.{digit, In}
 use Rattle.laws.proofs.Bools.{true-false, not-false-test}
 use Rattle.laws.proofs.Orders.{none-in}
+use Rattle.laws.proofs.Families.{in-joined}
 use Rattle.rules.specs.Table.{most}
-use Rattle.rules.specs.State.{listing}
 use Rattle.table.specs.declared.TaskNo.{TaskNo}
 use Rattle.lists.specs.declared.Lists.{Lists}
 use Rattle.lists.specs.Links.{Numbered, Waits, Stores, Once, Sized, nobody, at, front, back, occupied}
@@ -23,8 +23,7 @@ use Rattle.lists.specs.Marks.{none, seenAt, marked}
 use Rattle.stored.specs.Test.{ListsRight, MapTrue}
 use Rattle.lists.proofs.Few.{list-few}
 use Rattle.lists.proofs.Walks.{walk-end, walk-front, walk-occupied, walk-positive, walk-linked, lists-held}
-use Rattle.lists.proofs.Apart.{joined-once, once-each, apart-each}
-use Rattle.lists.proofs.Together.{in-all, all-in}
+use Rattle.lists.proofs.Apart.{joined-in, joined-once, once-each, apart-each}
 use Rattle.lists.proofs.Marks.{seen-none, marked-only, marked-in, Unseen, fresh-once, once-fresh}
 
 past-end : (a : List TaskNo) (k : ℕ) → length a ≡ suc most → most < k → at a k ≡ 0
@@ -32,6 +31,9 @@ past-end a k n h = ap (λ (u : TaskNo). u .0) (List·getD-eq-default a nobody (o
 
 bit-told : (s : Lists) (k : ℕ) → digit (not (eqb (at (s .first) (k + 1)) 0)) ≡ digit (occupied (listAt s (suc k)))
 bit-told s k = rw (add-one k) (ap digit (sym (walk-occupied (at (s .next)) (suc most) (at (s .first) (suc k)))))
+
+in-lists : (s : Lists) (x l : ℕ) → Numbered l → In x (listAt s l) → In x (allOf s)
+in-lists s x l n i = joined-in (listAt s) x most 1 l (n .low) (omega (arith, n .high)) i
 
 -- ---- arrays that pass the test
 
@@ -55,13 +57,12 @@ module _ {s : Lists} (sz : Sized s) (first-0 : at (s .first) 0 ≡ 0) (last-0 : 
   parts = fresh-once none (allOf s) refl (t .fresh)
 
   waits : Waits (listAt s)
-  unfolding listing
   waits =
       record {
         task = λ l x i.
             record {
               low = walk-positive (at (s .next)) (suc (suc most)) (at (s .first) l) x i;
-              high = parts .1 x (in-all (listAt s) x l (level l x i) i) .0;
+              high = parts .1 x (in-lists s x l (level l x i) i) .0;
             };
         level = level;
         once = λ l. ⊎-elim (λ n. once-each (listAt s) most 1 (parts .0) l (n .low) (omega (arith, n .high))) (λ e. rw (e .0) tt) (place l);
@@ -79,7 +80,7 @@ module _ {s : Lists} (sz : Sized s) (first-0 : at (s .first) 0 ≡ 0) (last-0 : 
           t .unlinked x (omega arith)
           (not-false-test (seenAt (marked none (allOf s)) x)
           (λ u. ⊎-elim (λ v. true-false (seenAt none x) v (seen-none (suc most) x)) (λ i. i) (marked-only x none (allOf s) u))
-          (λ i. let j = all-in (listAt s) x i in h (j .0) (j .1)))
+          (λ i. let j = in-joined (listAt s) x most 1 i in h (j .0) (j .2)))
 
   pub tests-hold : Holds s
   tests-hold =
@@ -114,15 +115,14 @@ module _ {s : Lists} (h : Holds s) where
   holds-map k b = held .map k b ∙ sym (bit-told s k)
 
   task : (x : ℕ) → In x (allOf s) → x ≤ most
-  task x m = let j = all-in (listAt s) x m in held .waits .task (j .0) x (j .1) .high
+  task x m = let j = in-joined (listAt s) x most 1 m in held .waits .task (j .0) x (j .2) .high
 
   pub holds-listed : ListsRight s
-  unfolding listing
   holds-listed =
       record {
         fresh = once-fresh none (allOf s) (joined-once (listAt s) most 1 (held .waits .once) (held .waits .apart)) (λ x m. (task x m, seen-none (suc most) x));
         last = λ l n. held .last l;
         unlinked = λ x b f.
             held .free x (λ l m.
-            true-false (seenAt (marked none (allOf s)) x) (marked-in x none (allOf s) refl task (inr (in-all (listAt s) x l (held .waits .level l x m) m))) f);
+            true-false (seenAt (marked none (allOf s)) x) (marked-in x none (allOf s) refl task (inr (in-lists s x l (held .waits .level l x m) m))) f);
       }

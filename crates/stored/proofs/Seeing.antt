@@ -13,7 +13,6 @@ use Rattle.laws.specs.Words.{Decides, count, joined}
 use Rattle.laws.proofs.Bools.{true-false, both-true, decides-same}
 use Rattle.laws.proofs.Counts.{count-le}
 use Rattle.rules.specs.Table.{most}
-use Rattle.rules.specs.State.{listing}
 use Rattle.lists.specs.declared.Lists.{Lists}
 use Rattle.stored.specs.declared.Gone.{Gone}
 use Rattle.lists.specs.Links.{at, back}
@@ -107,7 +106,6 @@ pub record Seeing (s : Lists) (l : ℕ) (seen : List Bool) : Type 0 where
   pub last : (k : ℕ) → 1 ≤ k → k < l → at (s .last) k ≡ back 0 (listAt s k)
 
 pub seeing-starts : (s : Lists) → Seeing s 1 none
-unfolding listing
 seeing-starts s =
     record { left = most; levels = refl; low = omega arith; fresh = refl; marked = refl; last = λ k a b. absurd (omega arith) }
 

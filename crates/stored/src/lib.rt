@@ -123,7 +123,7 @@ fn unlinked(stored: Stored, seen: [bool; PLACES]) -> bool
 }
 
 // The bit of a list with this number at its front.
-fn bit_of(first: TaskNo) -> u32
+fn bit_of(first: TaskNo) -> u64
     ensures { λ r. ⌜ r ≡ digit (not (eqb (first .0) 0)) ⌝ }
 {
     if first.0 == 0 {

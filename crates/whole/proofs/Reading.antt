@@ -11,7 +11,7 @@ use Rattle.laws.specs.Words.{In, joined, Puts}
 use Rattle.laws.proofs.Buffers.{puts-written}
 use Rattle.laws.proofs.Orders.{long-none}
 use Rattle.rules.specs.Table.{most}
-use Rattle.rules.specs.State.{listing}
+use Rattle.rules.specs.State.{highest, listing}
 use Rattle.rules.specs.Listing.{pairsOf, listingBytes}
 use Rattle.rules.proofs.Listings.{bytes-twice}
 use Rattle.lists.specs.declared.Lists.{Lists}
@@ -106,7 +106,7 @@ module _ {ls : ℕ → List ℕ} (w : Waits ls) where
   spells-listing : (rest : List ℕ) → Spells (λ l k. In k (ls l)) (listingBytes ls ++ rest) (listing ls)
   unfolding listing listingBytes
   spells-listing rest =
-      spells-same (spells-joined ls rest most 1) (λ l k. In k (ls l)) (λ l k p. p .2)
+      spells-same (spells-joined ls rest highest 1) (λ l k. In k (ls l)) (λ l k p. p .2)
       (λ l k m. let n : Numbered l = w .level l k m in (n .low, omega (arith, n .high), m))
 
 pub listing-room : {s : Lists} {ls : ℕ → List ℕ} → Stores s ls → length (listingBytes ls) ≤ 2 * most

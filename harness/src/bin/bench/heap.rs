@@ -11,7 +11,7 @@ pub struct Heap<'a> {
     reading: u32,
     calls: u64,
     /// Bit k - 1 for task k.
-    active: u32,
+    active: u64,
     released: [Option<u64>; MOST],
     /// Deadline, number of the release call, task.
     jobs: BinaryHeap<Reverse<(u64, u64, u8)>>,

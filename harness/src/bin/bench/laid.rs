@@ -1,8 +1,7 @@
 //! The bytes of the block that holds what a kernel of the model holds.
 
-use crate::library::Block;
 use crate::model::{Kernel, Task, MOST};
-use crate::stored::PLACES;
+use crate::stored::{Block, PLACES};
 
 pub fn block_of(kernel: &Kernel) -> Block {
     let table = &kernel.table;
@@ -30,7 +29,7 @@ pub fn block_of(kernel: &Kernel) -> Block {
 
 /// The waiting jobs, a list for each level: its first and last, the links, and the map.
 fn put_lists(kernel: &Kernel, bytes: &mut Vec<u8>) {
-    let (mut first, mut last, mut next, mut map) = ([0; PLACES], [0; PLACES], [0; PLACES], 0u32);
+    let (mut first, mut last, mut next, mut map) = ([0; PLACES], [0; PLACES], [0; PLACES], 0u64);
     for job in kernel.waiting() {
         let level = kernel.level_at(job, kernel.clock) as usize;
         match last[level] {

@@ -1,10 +1,7 @@
 //! The proved library, target/staticlib/libbench.a: one call, so many times on the same block. A slice is passed as a pointer and a length.
 
 use crate::model::Call;
-
-/// The bytes of a block.
-pub const BYTES: usize = 967;
-pub type Block = [u8; BYTES];
+use crate::stored::{Block, BLOCK_BYTES};
 
 #[link(name = "bench", kind = "static")]
 extern "C" {
@@ -23,11 +20,11 @@ fn numbers(call: Call) -> (u8, u32, u8) {
 /// The sum of the tasks that the answers name, by the call as users make it.
 pub fn public(block: &Block, call: Call, times: u32) -> u64 {
     let (kind, reading, task) = numbers(call);
-    unsafe { bench_calls(block.as_ptr(), BYTES, kind, reading, task, times) }
+    unsafe { bench_calls(block.as_ptr(), BLOCK_BYTES, kind, reading, task, times) }
 }
 
 /// By its inner form, without the whole-test.
 pub fn inner(block: &Block, call: Call, times: u32) -> u64 {
     let (kind, reading, task) = numbers(call);
-    unsafe { bench_inner(block.as_ptr(), BYTES, kind, reading, task, times) }
+    unsafe { bench_inner(block.as_ptr(), BLOCK_BYTES, kind, reading, task, times) }
 }

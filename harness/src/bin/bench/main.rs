@@ -28,7 +28,7 @@ use report::Stream;
 use timing::Sample;
 
 const SEED: u64 = 1;
-const COUNTS: [usize; 3] = [5, 20, 32];
+const COUNTS: [usize; 3] = [5, 20, 60];
 /// So many events of each kind are timed.
 pub const EACH: usize = 200;
 /// At one of so many of them it is tested that the time grows with the number of calls.

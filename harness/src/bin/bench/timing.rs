@@ -1,8 +1,9 @@
 //! The time of one call, at one event, in nanoseconds.
 
 use crate::heap::Heap;
-use crate::library::{self, Block};
+use crate::library;
 use crate::model::{Call, Kernel};
+use crate::stored::Block;
 use std::hint::black_box;
 use std::time::Instant;
 

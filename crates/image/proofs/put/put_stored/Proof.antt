@@ -28,9 +28,6 @@ mul-put-little c = search needs
 add-put-little : tie.Need-add-put-little
 add-put-little c = search needs
 
-cast-put-little : tie.Need-cast-put-little
-cast-put-little c = search needs
-
 put-little-requires : tie.Need-put-little-requires
 put-little-requires c κs = search needs
 
@@ -39,7 +36,7 @@ same-length c = search needs
 
 returns : tie.Need-returns
 returns c =
-    let third = c .before .before .before .before .before in
+    let third = c .before .before .before .before in
     let second = third .before .before .before .before .before in
     let first = second .before .before .before .before .before in
     let two = puts-behind (first .before .before .put-places .ensures) (second .before .before .put-places2 .ensures) (omega arith) in
@@ -59,7 +56,6 @@ put-stored-spec =
     put-places-requires-3
     mul-put-little
     add-put-little
-    cast-put-little
     put-little-requires
     same-length
     returns)

@@ -20,17 +20,17 @@ add-places-at-2 c = search needs
 places-at-requires-3 : tie.Need-places-at-requires-3
 places-at-requires-3 c κs = search needs
 
-mul-word-at : tie.Need-mul-word-at
-mul-word-at c = search needs
+mul-u64-at : tie.Need-mul-u64-at
+mul-u64-at c = search needs
 
-add-word-at : tie.Need-add-word-at
-add-word-at c = search needs
+add-u64-at : tie.Need-add-u64-at
+add-u64-at c = search needs
 
-word-at-requires : tie.Need-word-at-requires
-word-at-requires c κs = search needs
+u64-at-requires : tie.Need-u64-at-requires
+u64-at-requires c κs = search needs
 
 returns : tie.Need-returns
-returns c = rw (c .before .before .before .places-at .ensures, c .before .before .places-at2 .ensures, c .before .places-at3 .ensures, c .word-at .ensures)
+returns c = rw (c .before .before .before .places-at .ensures, c .before .before .places-at2 .ensures, c .before .places-at3 .ensures, c .u64-at .ensures)
 
 pub stored-at-spec : {M : Type 1} → statement M
 stored-at-spec =
@@ -42,7 +42,7 @@ stored-at-spec =
     mul-places-at
     add-places-at-2
     places-at-requires-3
-    mul-word-at
-    add-word-at
-    word-at-requires
+    mul-u64-at
+    add-u64-at
+    u64-at-requires
     returns)

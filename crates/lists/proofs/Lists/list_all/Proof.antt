@@ -15,7 +15,7 @@ abbrev μ-loop : tie.MeasureT-loop
 μ-loop self buffer₀ at₀ level₀ buffer at level = suc most - level
 
 loop-holds : tie.Need-loop-holds Inv-loop μ-loop
-loop-holds c = λ ls st. listing-start ls (c .before .args .buffer .now)
+loop-holds c = λ ls st. listing-start (st .waits) (c .before .args .buffer .now)
 
 list-into-requires : tie.Need-list-into-requires Inv-loop μ-loop
 list-into-requires c κs =

@@ -16,7 +16,7 @@ abbrev μ-loop : tie.MeasureT-loop
 μ-loop self sum₀ l₀ sum l = suc most - l
 
 loop-holds : tie.Need-loop-holds Inv-loop μ-loop
-loop-holds c = λ ls st. adding-start ls
+loop-holds c = λ ls st. adding-start (st .waits)
 
 length-of-requires : tie.Need-length-of-requires Inv-loop μ-loop
 length-of-requires c κs =
