@@ -22,7 +22,7 @@ use std::time::Instant;
 /// A part: its name, how many seeds it takes by itself, and what it does. It tells what it saw, or the first difference.
 type Part = (&'static str, u64, fn(u64, u64) -> Result<String, String>);
 
-const PARTS: [Part; 3] = [("streams", 30_000, runs::check), ("calls", 3_000, calls::check), ("damage", 100, damage::check)];
+const PARTS: [Part; 3] = [("streams", 30_000, runs::check), ("calls", 3_000, calls::check), ("damage", 50, damage::check)];
 
 /// The seed and the count, where one is given.
 fn arguments() -> Option<(u64, Option<u64>)> {

@@ -1,5 +1,5 @@
 -- Request 9, of the code: a stream that the rules' runner accepts with a smaller limit gives that runner's output. Assumes nothing.
-use mathlib.Core.Path.{_≡_, subst}
+use mathlib.Core.Path.{subst}
 use mathlib.Core.List.{List}
 use Prim.Native.Nat.{ℕ, _≤_}
 use borrow.Author.Tests.{le-leb}
