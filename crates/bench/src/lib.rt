@@ -1,6 +1,8 @@
 // What the benchmark times, for Rust to link: one call, so many times on the same block, as users call it and by its inner form. What it
 // gives back is the sum of the tasks that the answers name, so that no call can be left out; and the block that a call gives back is kept
 // and at the end tested, so that no call can leave it out.
+#![tactic(auto)]
+
 ghost use Rattle.std.specs.Prelude.{◌≡◌, ◌≤◌};
 ghost use Rattle.kernel.specs.Block.{Whole};
 ghost use Rattle.kernel.specs.Answers.{answer_in};

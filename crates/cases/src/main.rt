@@ -1,5 +1,7 @@
 // Runs each case of data/ in the order of the arguments, and writes its name and the runner's lines. What is expected comes from a model of
 // its own (tools/cases.py); it is compared with the file stdout.
+#![tactic(auto)]
+
 use files::{Ended, Input};
 
 fn main() {

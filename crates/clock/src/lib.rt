@@ -1,4 +1,6 @@
 // The clock ("The clock"): a 32-bit counter that rolls over, and the block's own clock of 64 bits, which does not.
+#![tactic(auto)]
+
 ghost use Rattle.std.specs.Prelude.{◌≡◌, ◌≤◌};
 ghost use Rattle.rules.specs.Clock.{elapsed_of, last_tick};
 ghost use Rattle.clock.specs.Advance.{advance_of, advanced_in};
@@ -10,7 +12,7 @@ const HALF_TURN: u32 = 1 << 31;
 pub const LAST_TICK: u64 = 1 << 40;
 
 // The new time, or the test that fails: 5 or 6.
-#[derive(Drop)]
+#[derive(Clone, Copy)]
 pub enum Moved {
     To(u64),
     CounterWentBack,

@@ -1,5 +1,7 @@
 // The calls in use, where no stream shows them: plans asked of a block, listings into buffers of several lengths, the calls by the block's
 // address, and the block of a refused start. What is written is compared with the file stdout, which is written from the paper.
+#![tactic(auto)]
+
 ghost use Rattle.rules.specs.Calls.{Release, Done, Clock};
 ghost use Rattle.kernel.specs.Calls.{Follows};
 

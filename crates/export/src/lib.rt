@@ -9,6 +9,8 @@
 //     meter_whole        whether the block is whole
 //
 // A refusal writes nothing: not one byte of the block, the answer, the buffer or the points.
+#![tactic(auto)]
+
 ghost use Rattle.std.specs.Prelude.{◌≡◌, ◌≤◌};
 ghost use Rattle.rules.specs.Table.{most};
 ghost use Rattle.rules.specs.Calls.{Release, Done, Clock};

@@ -1,9 +1,11 @@
 // Streams from a descriptor and outputs to one. What is read and written is the system's, and no contract can say it; but a read or a
 // write that fails is told.
+#![tactic(auto)]
+
 ghost use Rattle.files.specs.Ends.{ReadInto, EndsAs};
 
 // How many bytes were read, or that a read failed.
-#[derive(Drop)]
+#[derive(Clone, Copy)]
 pub enum Input {
     Bytes(usize),
     Failed,
@@ -29,7 +31,7 @@ pub fn read_all(from: i32, buffer: &mut [u8]) -> Input
 }
 
 // How a run ended: its stream passed the tests or was refused, or its output could not be written, or not all of it.
-#[derive(Drop)]
+#[derive(Clone, Copy)]
 pub enum Ended {
     Accepted,
     Refused,

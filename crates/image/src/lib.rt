@@ -13,6 +13,8 @@
 //
 // Numbers are little-endian. save and load take a step for each byte. They are inner forms: their callers, as export, have tested the
 // length.
+#![tactic(auto)]
+
 ghost use Rattle.std.specs.Prelude.{◌≡◌, ◌≤◌, length};
 ghost use Rattle.laws.specs.Words.{written};
 ghost use Rattle.image.specs.Bytes.{size, bytes_of, block_in};

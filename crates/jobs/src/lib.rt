@@ -2,6 +2,8 @@
 // copy, deadlines and levels. A task's number is its place; place 0, and those past the table's count, are free.
 //
 // These are inner forms: what they require of the table, the copy and the release times holds of a whole block.
+#![tactic(auto)]
+
 ghost use Rattle.std.specs.Prelude.{◌≡◌, ◌&&◌, ◌≤◌, leb};
 ghost use Rattle.rules.specs.Levels.{remaining_of};
 ghost use Rattle.rules.specs.Clock.{last_tick};
@@ -13,21 +15,21 @@ use levels::{level_in, remaining};
 use table::{Level, MOST, PLACES, Table, TaskNo};
 
 // A task's last accepted release: never, or at this time.
-#[derive(Drop)]
+#[derive(Clone, Copy)]
 pub enum Last {
     Never,
     At(u64),
 }
 
 // Whether the task's job is active, and its last release.
-#[derive(Drop)]
+#[derive(Clone, Copy)]
 pub struct Job {
     pub active: bool,
     pub last: Last,
 }
 
 // The table, and its deadlines in rising order, "laid down at start".
-#[derive(Drop)]
+#[derive(Clone, Copy)]
 pub struct Tasks {
     pub table: Table,
     pub rising: [u32; MOST],

@@ -13,7 +13,7 @@ use levels::{Plan, Point, plan_of};
 use table::{Level, MOST, TaskNo};
 
 // The number waiting, or why there is no listing.
-#[derive(Drop)]
+#[derive(Clone, Copy)]
 pub enum Listed {
     Waiting(usize),
     NotWhole,
@@ -34,7 +34,7 @@ impl Listed {
 }
 
 // Whether there is a plan, or why not.
-#[derive(Drop)]
+#[derive(Clone, Copy)]
 pub enum Asked {
     Given,
     NotWhole,
@@ -55,7 +55,7 @@ impl Asked {
 }
 
 // The answer, and the plan; on a refusal it has no points.
-#[derive(Drop)]
+#[derive(Clone, Copy)]
 pub struct Planned {
     pub answer: Asked,
     pub plan: Plan,

@@ -20,6 +20,8 @@
 // takes a step for each occupied list and, with a search in the rising copy, for each job that moves; it walks along no list. The listing
 // takes a step for each level and job, a plan for each task. The whole-test takes some steps for each task, level and place, and sorts the
 // deadlines again to compare the copy.
+#![tactic(auto)]
+
 ghost use Rattle.std.specs.Prelude.{◌≡◌};
 ghost use Rattle.laws.specs.Words.{Decides};
 ghost use Rattle.rules.specs.Numbers.{number_of};
@@ -44,13 +46,13 @@ mod inner; // release, done and clock of a whole block
 pub mod asks; // listing and plan
 
 // The clock, and the last accepted reading.
-#[derive(Drop)]
+#[derive(Clone, Copy)]
 pub struct Now {
     pub clock: u64,
     pub reading: u32,
 }
 
-#[derive(Drop)]
+#[derive(Clone, Copy)]
 pub struct Block {
     pub tasks: Tasks,
     pub jobs: [Job; PLACES],
@@ -59,14 +61,14 @@ pub struct Block {
 }
 
 // "for done the margin, deadline less the time of the call, a signed number"
-#[derive(Drop)]
+#[derive(Clone, Copy)]
 pub enum Margin {
     None,
     Ticks(i64),
 }
 
 // Why a call is refused.
-#[derive(Drop)]
+#[derive(Clone, Copy)]
 pub enum Refusal {
     NotWhole,
     CounterWentBack,
@@ -95,7 +97,7 @@ impl Refusal {
 }
 
 // "An accepted answer holds who runs: nobody, or one task; the moves of the call; and for done the margin"
-#[derive(Drop)]
+#[derive(Clone, Copy)]
 pub enum Answer {
     Accepted {
         running: Who,
@@ -106,7 +108,7 @@ pub enum Answer {
 }
 
 // What a call gives back.
-#[derive(Drop)]
+#[derive(Clone, Copy)]
 pub struct Called {
     pub answer: Answer,
     pub block: Block,

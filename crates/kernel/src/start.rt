@@ -10,7 +10,7 @@ use ready::Ready;
 use table::{MOST, PLACES, Table, Task, Verdict, table_test};
 
 // What start gives back: the table's verdict, and a block.
-#[derive(Drop)]
+#[derive(Clone, Copy)]
 pub struct Started {
     pub verdict: Verdict,
     pub block: Block,

@@ -15,7 +15,7 @@ use lists::Who;
 use table::TaskNo;
 
 // What the tests of a call find: its time, or the refusal.
-#[derive(Drop)]
+#[derive(Clone, Copy)]
 pub enum Checked {
     Go(u64),
     No(Refusal),

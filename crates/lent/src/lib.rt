@@ -1,5 +1,7 @@
 // The calls by the block's address: "the kernel keeps one block for its whole life and hands its address to each call". Each calls the
 // method by value, with the same answers, and stores the block that it gives back.
+#![tactic(auto)]
+
 ghost use Rattle.rules.specs.Calls.{Release, Done, Clock};
 ghost use Rattle.kernel.specs.Calls.{Gives};
 

@@ -7,6 +7,8 @@
 //
 // Each function puts a line into a lent buffer from a place on, and gives back the place behind it. These are inner forms: each asks for
 // room for the longest line that it can put.
+#![tactic(auto)]
+
 ghost use Rattle.std.specs.Prelude.{◌+◌, ◌≤◌, length};
 ghost use Rattle.laws.specs.Words.{Puts};
 ghost use Rattle.rules.specs.Table.{most};
@@ -20,7 +22,7 @@ use kernel::{Level, Margin, Plan};
 use text::{put_byte, put_column, put_number, put_signed};
 
 // What an E line shows.
-#[derive(Drop)]
+#[derive(Clone, Copy)]
 pub struct Shown {
     pub count: u64,
     pub answer: u64,

@@ -35,6 +35,7 @@ array_one : (a b : List TaskNo) (n : ℕ) → length a ≡ n → length b ≡ n 
 array_one a b n h g e = ext_get_or nobody a b (h ∙ sym g) (λ k l. ap (λ (i : ℕ). record { 0 = i }) (e k))
 
 linked_same : (n m : ℕ → ℕ) (q : List ℕ) → Linked n q → Linked m q → (x : ℕ) → In x q → n x ≡ m x
+linked_same n m [] k j x i = elim i [ ]
 linked_same n m (a ∷ q) k j x (inl e) = ap n e ∙ k.0 ∙ sym j.0 ∙ ap m (sym e)
 linked_same n m (a ∷ q) k j x (inr i) = linked_same n m q k.1 j.1 x i
 

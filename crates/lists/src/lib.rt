@@ -20,6 +20,8 @@
 // The fields are private, so nothing above this crate names a link or a bit. All functions but empty, stored and of are inner forms: they
 // require that the arrays store lists. `empty` makes such arrays, each operation keeps them so, and crate stored tests arrays that may
 // hold anything.
+#![tactic(auto)]
+
 ghost use Rattle.std.specs.Prelude.{◌≡◌, List, [], ℕ, suc, ◌-◌};
 ghost use Rattle.laws.specs.Bits.{BitMade};
 ghost use Rattle.rules.specs.Table.{most};
@@ -32,7 +34,7 @@ use table::{Level, PLACES, TaskNo};
 
 mod walk; // length_of, waiting, list_into, list_all
 
-#[derive(Drop)]
+#[derive(Clone, Copy)]
 pub struct Lists {
     first: [TaskNo; PLACES],
     last: [TaskNo; PLACES],
@@ -41,7 +43,7 @@ pub struct Lists {
 }
 
 // The arrays and the map, for those who keep a block elsewhere and bring it back; what they hold need not be lists.
-#[derive(Drop)]
+#[derive(Clone, Copy)]
 pub struct Stored {
     pub first: [TaskNo; PLACES],
     pub last: [TaskNo; PLACES],
@@ -50,7 +52,7 @@ pub struct Stored {
 }
 
 // "nobody, or one task"
-#[derive(Drop)]
+#[derive(Clone, Copy)]
 pub enum Who {
     Nobody,
     One(TaskNo),
@@ -69,13 +71,13 @@ impl Who {
 }
 
 // The level of an occupied list, where there is one.
-#[derive(Drop)]
+#[derive(Clone, Copy)]
 pub enum Occupied {
     Nothing,
     At(Level),
 }
 
-#[derive(Drop)]
+#[derive(Clone, Copy)]
 pub struct Popped {
     pub front: Who,
     pub lists: Lists,

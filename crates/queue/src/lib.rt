@@ -9,6 +9,8 @@
 //       active_as       exactly these are active
 //
 // Each takes a step for each waiting job or each task.
+#![tactic(auto)]
+
 ghost use Rattle.std.specs.Prelude.{◌≡◌, ◌∷◌, ℕ, ◌≤◌};
 ghost use Rattle.laws.specs.Words.{Decides};
 ghost use Rattle.rules.specs.Table.{most};

@@ -12,6 +12,8 @@
 // relevel takes a step for each occupied list and each job that moves; enter and leave take no walk along a list. Contracts speak of the
 // rules' lists: whatever is kept at first, they say what is kept afterwards. These are inner forms: what they require holds of a whole
 // block.
+#![tactic(auto)]
+
 ghost use Rattle.std.specs.Prelude.{List, ℕ};
 ghost use Rattle.rules.specs.Calls.{to_front, met_by, enter, leave};
 ghost use Rattle.lists.specs.Links.{Stores};
@@ -28,14 +30,14 @@ use table::{Level, PLACES, TaskNo};
 mod promotion; // promote
 
 // Who runs, and the lists of those who wait.
-#[derive(Drop)]
+#[derive(Clone, Copy)]
 pub struct Ready {
     pub running: Who,
     pub lists: Lists,
 }
 
 // Who runs and who waits when the waiting jobs have moved, and how many did.
-#[derive(Drop)]
+#[derive(Clone, Copy)]
 pub struct Releveled {
     pub ready: Ready,
     pub moves: u32,

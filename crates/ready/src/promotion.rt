@@ -14,14 +14,14 @@ use table::{Level, MOST, PLACES, TaskNo};
 const JOBS: u32 = MOST as u32;
 
 // The lists after jobs have moved, and how many did.
-#[derive(Drop)]
+#[derive(Clone, Copy)]
 pub struct Promoted {
     pub lists: Lists,
     pub moves: u32,
 }
 
 // What becomes of the front job of a list: it goes to this level, or nothing goes, since the job stays or the list is empty.
-#[derive(Drop)]
+#[derive(Clone, Copy)]
 enum Next {
     Stays,
     Goes(Level),

@@ -6,6 +6,8 @@
 //     TM   a reading                       6                   clock
 //
 // Numbers are little-endian. Each function takes a few steps.
+#![tactic(auto)]
+
 ghost use Rattle.std.specs.Prelude.{◌≡◌, ◌+◌, ◌≤◌, length};
 ghost use Rattle.rules.specs.Records.{word, record_at};
 ghost use Rattle.records.specs.Read.{mark_in, size_in, says_in, found_in};
@@ -13,7 +15,7 @@ ghost use Rattle.records.specs.Read.{mark_in, size_in, says_in, found_in};
 use table::{Task, TaskNo};
 
 // The two bytes before a record.
-#[derive(Drop)]
+#[derive(Clone, Copy)]
 enum Mark {
     Task,
     Release,
@@ -23,21 +25,21 @@ enum Mark {
 }
 
 // "calls (release, done, clock)": what an event record says.
-#[derive(Drop)]
+#[derive(Clone, Copy)]
 pub enum Call {
     Release { reading: u32, task: TaskNo },
     Done { reading: u32, task: TaskNo },
     Clock { reading: u32 },
 }
 
-#[derive(Drop)]
+#[derive(Clone, Copy)]
 pub enum Record {
     Task(Task),
     Event(Call),
 }
 
 // What stands at a place: the stream's end, a record of so many bytes, or an unknown mark or a record cut off.
-#[derive(Drop)]
+#[derive(Clone, Copy)]
 pub enum Found {
     End,
     Read(Record, usize),
@@ -137,7 +139,7 @@ pub fn record_at(stream: &[u8], at: usize) -> Found
 }
 
 // "The record reader keeps the stream it reads together with its place in it."
-#[derive(Drop)]
+#[derive(Clone, Copy)]
 pub struct Reader<'a> {
     pub stream: &'a [u8],
     pub at: usize,

@@ -1,5 +1,7 @@
 // "Numbers given back": the number of each refusal, in the one place where code says it. Each part answers an enum with the cases that it
 // can give; its `number` names one of these, and is proved to give the rules' `number_of`. docs/refusals.txt says what each means.
+#![tactic(auto)]
+
 pub const TABLE_SIZE: u8 = 1;
 
 pub const OUT_OF_RANGE: u8 = 2;

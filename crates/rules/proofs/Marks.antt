@@ -22,6 +22,7 @@ each_mark P a b c d m (inl e) = subst P (sym e) a
 each_mark P a b c d m (inr (inl e)) = subst P (sym e) b
 each_mark P a b c d m (inr (inr (inl e))) = subst P (sym e) c
 each_mark P a b c d m (inr (inr (inr (inl e)))) = subst P (sym e) d
+each_mark P a b c d m (inr (inr (inr (inr none)))) = elim none [ ]
 
 -- one is the task records'; the others are events'
 pub task_or_event : (m : Mark) → In m marks → (m ≡ task_mark) ⊎ (m ≡ task_mark → ⊥)

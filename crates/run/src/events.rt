@@ -22,7 +22,7 @@ use records::{Call, Found, Record, read};
 
 // How far a run has come: the block, the place behind the last line, how many events there were, the total of moves, and the bound of
 // demand 3.
-#[derive(Drop)]
+#[derive(Clone, Copy)]
 struct Progress {
     pub block: Block,
     pub place: usize,
@@ -32,7 +32,7 @@ struct Progress {
 }
 
 // What a run comes to: the place behind its last line, the total of moves, and the bound.
-#[derive(Drop)]
+#[derive(Clone, Copy)]
 pub struct Totals {
     pub place: usize,
     pub moves: u64,

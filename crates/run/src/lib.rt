@@ -9,6 +9,8 @@
 //
 // Time: the stream is read three times, for its tests, its table and its events; an event takes what its call takes, with the
 // whole-test, and what counting the waiting jobs takes.
+#![tactic(auto)]
+
 ghost use Rattle.std.specs.Prelude.{◌≡◌, suc, ◌≤◌, length, replicate};
 ghost use Rattle.laws.specs.Words.{Puts};
 ghost use Rattle.rules.specs.Numbers.{Passed, longest};

@@ -2,6 +2,8 @@
 //
 // A program has no exit status, so it says on descriptor 3 how it ended, `accepted` or `refused`, and nothing there where it could not
 // read or write.
+#![tactic(auto)]
+
 use files::{Ended, Input};
 
 fn main() {

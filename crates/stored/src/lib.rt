@@ -7,6 +7,8 @@
 //         unlinked        nobody else has a link
 //
 // It takes a step for each level, each job and each place.
+#![tactic(auto)]
+
 ghost use Rattle.std.specs.Prelude.{◌≡◌, not, ◌≤◌, eqb};
 ghost use Rattle.laws.specs.Words.{Decides, digit};
 ghost use Rattle.rules.specs.Table.{most};
@@ -17,7 +19,7 @@ use lists::Stored;
 use table::{MOST, PLACES, TaskNo};
 
 // Whether a list is right, and who has been seen so far.
-#[derive(Drop)]
+#[derive(Clone, Copy)]
 struct Gone {
     ok: bool,
     seen: [bool; PLACES],

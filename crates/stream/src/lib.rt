@@ -4,6 +4,8 @@
 //     table_in         the task records, in their order
 //
 // Each reads the stream once.
+#![tactic(auto)]
+
 ghost use Rattle.std.specs.Prelude.{◌≡◌, false, suc, ◌<◌, ◌^◌};
 ghost use Rattle.rules.specs.Numbers.{first_of, number_in, given_with};
 ghost use Rattle.rules.specs.Records.{is_task_record, items_of, record_tests, stream_of, tasks_read};
@@ -18,7 +20,7 @@ use table::{MOST, Table, Task};
 pub const LONGEST: usize = 65536;
 
 // What the tests of a stream find: readable, or the first that fails, with the offset of the record.
-#[derive(Drop)]
+#[derive(Clone, Copy)]
 pub enum Stream {
     Readable,
     Unreadable(usize),

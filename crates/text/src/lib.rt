@@ -2,6 +2,8 @@
 // and gives back the place behind it.
 //
 // These are inner forms: each asks for room for the longest text that it can put.
+#![tactic(auto)]
+
 ghost use Rattle.std.specs.Prelude.{◌≡◌, [], ◌∷◌, ◌+◌, ◌<◌, ◌≤◌, pos, nat_abs, ◌<ℤ◌, length};
 ghost use Rattle.laws.specs.Words.{Puts};
 ghost use Rattle.rules.specs.Text.{digits, number_text, signed_text, column};

@@ -8,6 +8,8 @@
 //                     levels, in order
 //
 // The last part reads the listing, as a pair of bytes for each waiting job, and so decides whether the block is whole.
+#![tactic(auto)]
+
 ghost use Rattle.std.specs.Prelude.{◌≡◌, ◌≤◌};
 ghost use Rattle.laws.specs.Words.{Decides};
 ghost use Rattle.rules.specs.Table.{most};

@@ -1,0 +1,7 @@
+use Rattle.std.proofs.Common.{arith, rules}
+use Rattle.rules.specs.Clock.{elapsed_of}
+use Rattle.clock.proofs.elapsed.Goals as goal
+
+pub returns : goal.returns
+unfolding elapsed_of
+returns c = omega (arith, c.wrapping_sub_u32.ensures)

@@ -1,0 +1,17 @@
+use mathlib.Core.Path.{◌≡◌}
+use Prim.Native.Nat.{◌+◌, ◌-◌, ◌≤◌}
+use native.Mathlib.Omega.{arith}
+use borrow.Author.Rules.{rules}
+use lib.ListN.{length}
+use Rattle.laws.proofs.Arrays.{long_map}
+use Rattle.laws.proofs.Buffers.{puts_length, puts_byte}
+use Rattle.rules.specs.Table.{most}
+use Rattle.image.specs.Bytes.{task_no_bytes}
+use Rattle.image.proofs.Putting.{FirstPut, none_put, next_put, all_put}
+use Rattle.image.proofs.put.put_places.Given as goal
+
+abbrev pub invariant-loop-i : goal.invariant-loop-i
+invariant-loop-i l = (l.i ≤ most + 1) × FirstPut task_no_bytes l.initial.bytes l.at l.places (l.at + l.i) l.bytes l.i
+
+abbrev pub decreases-loop-i : goal.decreases-loop-i
+decreases-loop-i l = most + 1 - l.i

@@ -1,0 +1,11 @@
+use native.Mathlib.Omega.{arith}
+use borrow.Author.Rules.{rules}
+use Rattle.laws.proofs.Buffers.{puts_to, puts_behind}
+use Rattle.image.proofs.put.put_task.Goals as goal
+
+pub returns : goal.returns
+returns c = let second = c in
+    let first = second in
+    let two = puts_behind first.put_little.ensures second.put_little-2.ensures (omega arith) in
+    let all = puts_behind two c.put_little-3.ensures (omega arith) in
+    puts_to (omega arith) all

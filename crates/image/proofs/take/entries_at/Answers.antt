@@ -1,0 +1,18 @@
+use Prim.Native.Nat.{◌-◌, ◌≤◌}
+use native.Mathlib.Omega.{arith}
+use borrow.Author.Rules.{rules}
+use Rattle.rules.specs.Table.{most}
+use Rattle.table.specs.Stored.{no_entry}
+use Rattle.image.specs.Bytes.{task_from}
+use Rattle.image.proofs.Taking.{FirstTaken, none_taken, next_taken, all_taken}
+use Rattle.image.proofs.take.entries_at.Goals as goal
+
+pub loop-i-init : goal.loop-i-init
+loop-i-init c = (omega arith, none_taken _ _ _ _ no_entry)
+
+pub loop-i-preserved : goal.loop-i-preserved
+loop-i-preserved c = let now = c.loop-i in
+    (omega arith, next_taken _ _ now.tasks now.i (omega arith) now.invariant.1 c.task_at-task.ensures (omega arith))
+
+pub returns : goal.returns
+returns c = all_taken _ _ _ _ c.loop-i.invariant.1 (omega arith)

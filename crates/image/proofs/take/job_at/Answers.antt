@@ -1,0 +1,5 @@
+use borrow.Author.Rules.{rules}
+use Rattle.image.proofs.take.job_at.Goals as goal
+
+pub returns : goal.returns
+returns c = rw c.last_at-last.ensures

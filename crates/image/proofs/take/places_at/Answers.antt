@@ -1,0 +1,18 @@
+use mathlib.Core.Path.{refl}
+use Prim.Native.Nat.{◌+◌, ◌-◌, ◌≤◌}
+use native.Mathlib.Omega.{arith}
+use borrow.Author.Rules.{rules}
+use Rattle.rules.specs.Table.{most}
+use Rattle.image.specs.Bytes.{task_no_from}
+use Rattle.image.proofs.Taking.{FirstTaken, none_taken, next_taken, all_taken}
+use Rattle.image.proofs.take.places_at.Goals as goal
+
+pub loop-i-init : goal.loop-i-init
+loop-i-init c = (omega arith, none_taken _ _ _ _ (record { 0 = 0 }))
+
+pub loop-i-preserved : goal.loop-i-preserved
+loop-i-preserved c = let now = c.loop-i in
+    (omega arith, next_taken _ _ now.places now.i (omega arith) now.invariant.1 refl (omega arith))
+
+pub returns : goal.returns
+returns c = all_taken _ _ _ _ c.loop-i.invariant.1 (omega arith)

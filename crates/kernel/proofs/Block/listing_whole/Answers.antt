@@ -1,0 +1,33 @@
+use mathlib.Core.Path.{◌≡◌}
+use native.Mathlib.Omega.{arith}
+use borrow.Author.Rules.{rules}
+use lib.ListN.{length}
+use Rattle.rules.specs.State.{waiting}
+use Rattle.rules.proofs.Listings.{bytes_twice}
+use Rattle.lists.proofs.Together.{listing_few}
+use Rattle.kernel.specs.Block.{view_of}
+use Rattle.kernel.proofs.Asking.{lists_viewed, listed_short, listed_all}
+use Rattle.kernel.proofs.Block.listing_whole.Goals as goal
+use Rattle.kernel.proofs.Block.listing_whole.Goals.{After-waiting-waiting}
+
+counted : (c : After-waiting-waiting) → c.waiting-waiting.result ≡ length (waiting (view_of c.args.self))
+counted c = let s = c in c.waiting-waiting.ensures _ (lists_viewed s.args.self s.requires)
+
+pub overflow_mul-waiting : goal.overflow_mul-waiting
+overflow_mul-waiting c = let s = c in omega (arith, counted (goal.at.overflow_mul-waiting c).After-waiting-waiting, listing_few (lists_viewed s.args.self s.requires).waits)
+
+pub returns-then-buffer-waiting : goal.returns-then-buffer-waiting
+returns-then-buffer-waiting c = let s = c in listed_short (view_of s.args.self) s.args.buffer.now (counted (goal.at.returns-then-buffer-waiting c).After-waiting-waiting) (omega (arith, c.if-buffer-waiting.true))
+
+pub list_all-requires : goal.list_all-requires
+list_all-requires c = let s = c in
+    record {
+      lists = (view_of s.args.self).ready.lists;
+      stores = lists_viewed s.args.self s.requires;
+      room = omega (arith, counted (goal.at.list_all-requires c).After-waiting-waiting, bytes_twice (view_of s.args.self).ready.lists, c.if-buffer-waiting.false);
+    }
+
+pub returns : goal.returns
+returns c = let s = c in
+    listed_all (view_of s.args.self) s.args.buffer.now (counted (goal.at.returns c).After-waiting-waiting) c.if-buffer-waiting.false
+    (c.list_all.ensures _ (lists_viewed s.args.self s.requires))

@@ -1,0 +1,10 @@
+use native.Mathlib.Omega.{arith}
+use borrow.Author.Rules.{rules}
+use Rattle.kernel.proofs.Testing.{time_found, soon_at}
+use Rattle.kernel.proofs.tests.too_soon.Goals as goal
+
+pub overflow_add-result : goal.overflow_add-result
+overflow_add-result c = omega (arith, time_found c.in-At.is)
+
+pub returns-in-At : goal.returns-in-At
+returns-in-At c = soon_at c.in-At.is _ _

@@ -1,0 +1,15 @@
+use mathlib.Core.Path.{◌≡◌}
+use Prim.Native.Nat.{◌-◌, ◌≤◌}
+use native.Mathlib.Omega.{arith}
+use borrow.Author.Rules.{rules}
+use lib.ListN.{length}
+use Rattle.laws.proofs.Arrays.{long_map}
+use Rattle.rules.specs.Table.{most}
+use Rattle.lines.proofs.Points.{PointsPut, points_none, points_next, points_all}
+use Rattle.lines.proofs.put_points.Given as goal
+
+abbrev pub invariant-loop-i : goal.invariant-loop-i
+invariant-loop-i l = (l.i ≤ l.i-end) × PointsPut l.initial.buffer l.at l.plan.points l.i l.next l.buffer
+
+abbrev pub decreases-loop-i : goal.decreases-loop-i
+decreases-loop-i l = l.i-end - l.i

@@ -1,0 +1,14 @@
+use mathlib.Core.Path.{◌≡◌, refl}
+use Prim.Native.Nat.{suc, ◌-◌, ◌≤◌}
+use native.Mathlib.Omega.{arith}
+use borrow.Author.Rules.{rules}
+use Rattle.lists.specs.Marks.{marked}
+use Rattle.queue.specs.Row.{row_tasks}
+use Rattle.queue.proofs.Rows.{marked_next}
+use Rattle.queue.proofs.marks.Given as goal
+
+abbrev pub invariant-loop-i : goal.invariant-loop-i
+invariant-loop-i l = (l.i ≤ l.n) × (l.seen ≡ marked l.initial.seen (row_tasks l.bytes l.i))
+
+abbrev pub decreases-loop-i : goal.decreases-loop-i
+decreases-loop-i l = l.n - l.i

@@ -1,0 +1,12 @@
+use Prim.Native.Nat.{◌-◌}
+use native.Mathlib.Omega.{arith}
+use borrow.Author.Rules.{rules}
+use Rattle.rules.specs.Table.{most}
+use Rattle.ready.proofs.Draining.{Draining, draining_starts, draining_ends, draining_all, draining_level, draining_turns}
+use Rattle.ready.proofs.promotion.drain.Given as goal
+
+abbrev pub invariant-loop-moves : goal.invariant-loop-moves
+invariant-loop-moves l = Draining l.tasks l.jobs l.time l.level.0 l.initial.now l.now l.moves
+
+abbrev pub decreases-loop-moves : goal.decreases-loop-moves
+decreases-loop-moves l = most - l.moves

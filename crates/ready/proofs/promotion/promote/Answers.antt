@@ -1,0 +1,42 @@
+use Prim.Native.Nat.{suc, ◌+◌, ◌-◌}
+use native.Mathlib.Omega.{arith}
+use borrow.Author.Rules.{rules}
+use Rattle.rules.specs.Table.{most}
+use Rattle.ready.proofs.Promoting.{Promoting, promoting_starts, promoting_ends, promoting_asks, promoting_stops, promoting_level, promoting_drains, promoting_turns}
+use Rattle.ready.proofs.promotion.promote.Goals as goal
+use Rattle.ready.proofs.promotion.promote.Goals.{After-drain-drained}
+
+pub loop-from-init : goal.loop-from-init
+loop-from-init c = promoting_starts c.requires
+
+pub lowest_from-found-requires : goal.lowest_from-found-requires
+lowest_from-found-requires c = promoting_asks c.loop-from.invariant (omega arith)
+
+pub returns-in-Nothing : goal.returns-in-Nothing
+returns-in-Nothing c = promoting_stops c.loop-from.invariant c.lowest_from-found.ensures c.in-Nothing.is
+
+pub drain-drained-requires : goal.drain-drained-requires
+drain-drained-requires c = promoting_drains c.loop-from.invariant c.lowest_from-found.ensures _ c.in-At.is
+
+turned : (c : After-drain-drained) → let a = c in
+    Promoting a.args.tasks a.args.jobs a.args.time a.args.lists c.drain-drained.result.lists
+    (a.loop-from.total + c.drain-drained.result.moves) (c.in-At.level.0 + 1)
+turned c =
+    promoting_turns c.loop-from.invariant c.lowest_from-found.ensures _ c.in-At.is
+    c.drain-drained.result c.drain-drained.ensures
+
+pub overflow_add-total : goal.overflow_add-total
+overflow_add-total c = omega (arith, (turned (goal.at.overflow_add-total c).After-drain-drained).few, (turned (goal.at.overflow_add-total c).After-drain-drained).high)
+
+pub overflow_add-from : goal.overflow_add-from
+overflow_add-from c = omega (arith, (turned (goal.at.overflow_add-from c).After-drain-drained).high)
+
+pub loop-from-smaller : goal.loop-from-smaller
+loop-from-smaller c = let a = c in
+    omega (arith, promoting_level a.loop-from.invariant a.lowest_from-found.ensures _ c.in-At.is)
+
+pub loop-from-preserved : goal.loop-from-preserved
+loop-from-preserved c = turned (goal.at.loop-from-preserved c).After-drain-drained
+
+pub returns : goal.returns
+returns c = promoting_ends c.loop-from.invariant (omega arith)

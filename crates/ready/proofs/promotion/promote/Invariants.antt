@@ -1,0 +1,12 @@
+use Prim.Native.Nat.{suc, ◌+◌, ◌-◌}
+use native.Mathlib.Omega.{arith}
+use borrow.Author.Rules.{rules}
+use Rattle.rules.specs.Table.{most}
+use Rattle.ready.proofs.Promoting.{Promoting, promoting_starts, promoting_ends, promoting_asks, promoting_stops, promoting_level, promoting_drains, promoting_turns}
+use Rattle.ready.proofs.promotion.promote.Given as goal
+
+abbrev pub invariant-loop-from : goal.invariant-loop-from
+invariant-loop-from l = Promoting l.tasks l.jobs l.time l.initial.now l.now l.total l.from
+
+abbrev pub decreases-loop-from : goal.decreases-loop-from
+decreases-loop-from l = suc most - l.from

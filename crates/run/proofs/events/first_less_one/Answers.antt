@@ -1,0 +1,39 @@
+use mathlib.Core.Path.{◌≡◌, ap, ◌∙◌}
+use Prim.Native.Nat.{ℕ, ◌-◌}
+use native.Mathlib.Omega.{arith}
+use borrow.Author.Rules.{rules}
+use lib.ListN.{length}
+use Rattle.laws.proofs.Arrays.{long_map}
+use Rattle.rules.specs.Table.{most}
+use Rattle.rules.specs.Levels.{first_level}
+use Rattle.rules.proofs.Levels.{first_low}
+use Rattle.table.specs.Stored.{table_of}
+use Rattle.table.proofs.Tests.{table_length}
+use Rattle.run.proofs.Laid.{laid_place, laid_first, laid_copied}
+use Rattle.run.proofs.events.first_less_one.Goals as goal
+use Rattle.run.proofs.events.first_less_one.Goals.{After-struct_known-2-1, Start}
+
+long : (c : Start) → length c.args.tasks.table.tasks ≡ most
+long c = search (rules, long_map)
+
+first : (c : After-struct_known-2-1)
+    → let a = c.args in c.first_level-level.result.0 ≡ first_level (table_of a.t1.table) a.task.0
+first c =
+    let s = c in let a = s.args in
+    c.first_level-level.ensures (table_of a.t1.table) s.requires.laid.copy (table_length a.t1.table (long s))
+    ∙ laid_first a.t1 a.task.0 s.requires (long s)
+
+pub overflow_sub-entry : goal.overflow_sub-entry
+overflow_sub-entry c = let s = c in (laid_place s.args.tasks s.args.task.0 s.requires (long (goal.at.overflow_sub-entry c).Start)).0
+
+pub bounds-table-i : goal.bounds-table-i
+bounds-table-i c = let s = c in omega (arith, laid_place s.args.tasks s.args.task.0 s.requires (long (goal.at.bounds-table-i c).Start))
+
+pub first_level-level-requires : goal.first_level-level-requires
+first_level-level-requires c = let s = c in laid_copied s.args.tasks s.args.task.0 s.requires (long (goal.at.first_level-level-requires c).Start)
+
+pub overflow_sub-result : goal.overflow_sub-result
+overflow_sub-result c = let a = c.args in omega (arith, first (goal.at.overflow_sub-result c).After-struct_known-2-1, first_low (table_of a.t1.table) a.task.0)
+
+pub returns : goal.returns
+returns c = (ap (λ (l : ℕ). l - 1) (first (goal.at.returns c).After-struct_known-2-1), search rules)

@@ -1,0 +1,20 @@
+use mathlib.Core.Path.{◌≡◌}
+use borrow.Author.Rules.{rules}
+use lib.ListN.{length}
+use Rattle.rules.specs.State.{waiting}
+use Rattle.kernel.specs.Block.{view_of}
+use Rattle.kernel.proofs.Asking.{lists_viewed}
+use Rattle.run.proofs.Along.{line_accepted, line_refused}
+use Rattle.run.proofs.events.shown.Goals as goal
+use Rattle.run.proofs.events.shown.Goals.{After-waiting-waiting}
+
+counted : (c : After-waiting-waiting) → c.waiting-waiting.result ≡ length (waiting (view_of c.args.called.block))
+counted c = let s = c in c.waiting-waiting.ensures _ (lists_viewed s.args.called.block s.requires)
+
+pub returns-in-Accepted : goal.returns-in-Accepted
+returns-in-Accepted c = let w = c in let a = w.args in
+    line_accepted a.count a.called w.number-running.ensures (counted (goal.at.returns-in-Accepted c).After-waiting-waiting) c.in-Accepted.is
+
+pub returns-in-Refused : goal.returns-in-Refused
+returns-in-Refused c = let w = c in let a = w.args in
+    line_refused a.count a.called w.number-running.ensures (counted (goal.at.returns-in-Refused c).After-waiting-waiting) c.in-Refused.is c.number.ensures

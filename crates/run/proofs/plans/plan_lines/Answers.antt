@@ -1,0 +1,49 @@
+use mathlib.Core.Path.{◌≡◌}
+use Prim.Native.Nat.{◌+◌, ◌-◌, ◌≤◌}
+use native.Mathlib.Omega.{arith}
+use borrow.Author.Rules.{rules}
+use lib.ListN.{length}
+use Rattle.laws.proofs.Arrays.{long_map}
+use Rattle.laws.proofs.Bools.{le_both}
+use Rattle.rules.specs.Table.{most}
+use Rattle.table.specs.Stored.{table_of}
+use Rattle.table.proofs.Tests.{table_length, few_passed}
+use Rattle.run.proofs.Planning.{Planning, planning_first, planning_next, planning_end, planning_room, planning_most}
+use Rattle.run.proofs.plans.plan_lines.Goals as goal
+use Rattle.run.proofs.plans.plan_lines.Goals.{Start}
+
+long : (c : Start) → length c.args.tasks.table.tasks ≡ most
+long c = search (rules, long_map)
+
+counted : (c : Start) → length (table_of c.args.tasks.table) ≡ c.args.tasks.table.count
+counted c = table_length c.args.tasks.table (long c)
+
+few : (c : Start) → c.args.tasks.table.count ≤ most
+few c = few_passed c.args.tasks.table (long c) c.requires.0.copy.tested
+
+pub overflow_add-k-end : goal.overflow_add-k-end
+overflow_add-k-end c = omega (arith, few (goal.at.overflow_add-k-end c).Start)
+
+pub loop-k-init : goal.loop-k-init
+loop-k-init c = (planning_first _ _, search rules)
+
+pub overflow_cast-k : goal.overflow_cast-k
+overflow_cast-k c = let s = c in omega (arith, few (goal.at.overflow_cast-k c).Start, c.loop-k.invariant.1, c.loop-k-test.true)
+
+pub task_line-at-requires : goal.task_line-at-requires
+task_line-at-requires c = let s = c in let i = c.loop-k.invariant in
+    let in_table : c.loop-k.k ≤ length (table_of s.args.tasks.table) = omega (arith, counted (goal.at.task_line-at-requires c).Start, i.1, c.loop-k-test.true) in (
+      record { laid = s.requires.0; task = le_both (i.0.low, in_table) },
+      omega (arith, planning_room _ _ i.0 (omega (arith, counted (goal.at.task_line-at-requires c).Start, few (goal.at.task_line-at-requires c).Start)) in_table, i.0.same, s.requires.1),
+    )
+
+pub loop-k-smaller : goal.loop-k-smaller
+loop-k-smaller c = omega (arith, c.loop-k-test.true)
+
+pub loop-k-preserved : goal.loop-k-preserved
+loop-k-preserved c = let s = c in let i = c.loop-k.invariant in let put = c.task_line-at.ensures in
+    (planning_next _ _ i.0 (omega (arith, counted (goal.at.loop-k-preserved c).Start, i.1, c.loop-k-test.true)) put.0 put.1, i.1)
+
+pub returns : goal.returns
+returns c = let s = c in let i = c.loop-k.invariant in
+    (planning_end _ _ i.0 (omega (arith, counted (goal.at.returns c).Start, i.1, c.loop-k-test.false)), planning_most _ _ i.0 (omega (arith, counted (goal.at.returns c).Start, few (goal.at.returns c).Start)))

@@ -1,0 +1,45 @@
+use mathlib.Core.Path.{◌≡◌, ap₂, ◌∙◌}
+use mathlib.Core.List.{List}
+use Prim.Native.Nat.{ℕ}
+use native.Mathlib.Omega.{arith}
+use borrow.Author.Rules.{rules}
+use lib.ListN.{length}
+use Rattle.laws.proofs.Arrays.{long_map}
+use Rattle.laws.proofs.Buffers.{puts_as}
+use Rattle.rules.specs.Table.{most}
+use Rattle.rules.specs.Levels.{Point}
+use Rattle.rules.specs.Text.{plan_text}
+use Rattle.table.specs.Stored.{table_of}
+use Rattle.table.proofs.Tests.{table_length}
+use Rattle.run.proofs.Laid.{laid_place, laid_first, laid_copied, laid_points, laid_few}
+use Rattle.run.proofs.plans.task_line.Goals as goal
+use Rattle.run.proofs.plans.task_line.Goals.{Start}
+
+long : (c : Start) → length c.args.tasks.table.tasks ≡ most
+long c = search (rules, long_map)
+
+pub overflow_sub-entry : goal.overflow_sub-entry
+overflow_sub-entry c = let s = c in omega (arith, laid_place s.args.tasks s.args.task.0 s.requires.0 (long (goal.at.overflow_sub-entry c).Start))
+
+pub bounds-table-i : goal.bounds-table-i
+bounds-table-i c = let s = c in omega (arith, laid_place s.args.tasks s.args.task.0 s.requires.0 (long (goal.at.bounds-table-i c).Start))
+
+pub first_level-level-requires : goal.first_level-level-requires
+first_level-level-requires c = let s = c in laid_copied s.args.tasks s.args.task.0 s.requires.0 (long (goal.at.first_level-level-requires c).Start)
+
+pub plan_of-plan-requires : goal.plan_of-plan-requires
+plan_of-plan-requires c = let s = c in laid_copied s.args.tasks s.args.task.0 s.requires.0 (long (goal.at.plan_of-plan-requires c).Start)
+
+pub plan_line-requires : goal.plan_line-requires
+plan_line-requires c = let s = c in let a = s.args in
+    let few = laid_few a.t1 a.task.0 s.requires.0 (long (goal.at.plan_line-requires c).Start) _ (c.plan_of-plan.ensures (table_of a.t1.table) s.requires.0.laid.copy (table_length a.t1.table (long (goal.at.plan_line-requires c).Start))) in
+    (few, omega (arith, few, s.requires.1))
+
+pub returns : goal.returns
+returns c = let s = c in let a = s.args in
+    let plan = c.plan_of-plan.ensures (table_of a.t1.table) s.requires.0.laid.copy (table_length a.t1.table (long (goal.at.returns c).Start)) in
+    let level = c.first_level-level.ensures (table_of a.t1.table) s.requires.0.laid.copy (table_length a.t1.table (long (goal.at.returns c).Start)) ∙ laid_first a.t1 a.task.0 s.requires.0 (long (goal.at.returns c).Start) in
+    let put = c.plan_line.ensures in (
+      puts_as (ap₂ (λ (l : ℕ) (ps : List Point). plan_text (record { task = a.task.0; level = l; points = ps })) level (laid_points a.t1 a.task.0 s.requires.0 (long (goal.at.returns c).Start) _ plan)) put.0,
+      omega (arith, put.1, laid_few a.t1 a.task.0 s.requires.0 (long (goal.at.returns c).Start) _ plan),
+    )

@@ -1,0 +1,18 @@
+use mathlib.Core.Path.{◌≡◌}
+use mathlib.Core.Bool.{not}
+use Prim.Native.Nat.{ℕ, ◌+◌, ◌-◌, ◌≤◌, ◌<◌}
+use native.Mathlib.Omega.{arith}
+use borrow.Author.Count.{below_more}
+use borrow.Author.Rules.{rules}
+use lib.Dec.{eqb}
+use Rattle.laws.specs.Words.{digit}
+use Rattle.laws.specs.Bits.{bit_at}
+use Rattle.rules.specs.Table.{most}
+use Rattle.lists.specs.Links.{at}
+use Rattle.stored.proofs.map_true.Given as goal
+
+abbrev pub invariant-loop-k : goal.invariant-loop-k
+invariant-loop-k l = (l.k ≤ most) × ((j : ℕ) → j < l.k → bit_at l.stored.map j ≡ digit (not (eqb (at l.stored.first (j + 1)) 0)))
+
+abbrev pub decreases-loop-k : goal.decreases-loop-k
+decreases-loop-k l = most - l.k

@@ -1,0 +1,19 @@
+use mathlib.Core.Path.{◌≡◌}
+use mathlib.Core.Bool.{false}
+use mathlib.Core.Logic.{⊎_elim}
+use Prim.Native.Nat.{ℕ, suc, ◌-◌, ◌≤◌, ◌<◌}
+use native.Mathlib.Omega.{arith}
+use borrow.Author.Count.{below_more}
+use borrow.Author.Rules.{rules}
+use borrow.Author.Tests.{not-true, not-false}
+use Rattle.laws.proofs.Bools.{true_false}
+use Rattle.rules.specs.Table.{most}
+use Rattle.lists.specs.Links.{at}
+use Rattle.lists.specs.Marks.{seen_at}
+use Rattle.stored.proofs.unlinked.Given as goal
+
+abbrev pub invariant-loop-x : goal.invariant-loop-x
+invariant-loop-x l = (l.x ≤ suc most) × ((y : ℕ) → y < l.x → seen_at l.seen y ≡ false → at l.stored.next y ≡ 0)
+
+abbrev pub decreases-loop-x : goal.decreases-loop-x
+decreases-loop-x l = suc most - l.x

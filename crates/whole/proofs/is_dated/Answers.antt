@@ -1,0 +1,5 @@
+use borrow.Author.Rules.{rules}
+use Rattle.whole.proofs.is_dated.Goals as goal
+
+pub returns-in-At : goal.returns-in-At
+returns-in-At c = rw c.in-At.is
