@@ -5,8 +5,6 @@ use mathlib.Core.Logic.{⊎_elim}
 use mathlib.Core.List.{List, [], ◌∷◌}
 use Prim.Native.Nat.{ℕ, ◌+◌, ◌*◌}
 use native.Mathlib.Omega.{arith}
-use types.Run.{OneOf}
-use denote.Enum.Declared.{tag_of}
 use borrow.Author.Tests.{eq-eqb, ne_eqb}
 use lib.ListN.{length}
 use Rattle.laws.specs.Words.{Decides, digit, written}
@@ -37,7 +35,6 @@ use Rattle.kernel.specs.Answers.{refusal_in, margin_in}
 use Rattle.kernel.specs.Calls.{Gives}
 use Rattle.kernel.specs.Start.{Starts}
 use Rattle.kernel.specs.Asks.{listed_in, GivesListing}
-use Rattle.kernel.specs.contracts.asks.Listed.{the_type}
 use Rattle.image.specs.Bytes.{size, bytes_of, block_in}
 use Rattle.export.specs.Door.{kind_of, ticks_of, Answers, Tells, TellsStart, number_by, TellsListing, TellsWhole}
 
@@ -95,12 +92,9 @@ module _ (s : List ℕ) (reading : ℕ) (bytes : List ℕ) where
 number_waiting : {l : Listed} {n : ℕ} → l ≡ Listed.Waiting n → (after : List ℕ) → n ≡ number_by (listed_in l after).waiting (listed_in l after).verdict
 number_waiting e after = rw e refl
 
-number_refused : (l : Listed) → OneOf (1 ∷ 2 ∷ []) (tag_of the_type l) → (after : List ℕ)
+number_refused : (l : Listed) → ((n : ℕ) → l ≡ Listed.Waiting n → ⊥) → (after : List ℕ)
     → 256 * number_in (listed_in l []).verdict ≡ number_by (listed_in l after).waiting (listed_in l after).verdict
-number_refused (Listed.Waiting n) h after = absurd (other h)
-  where
-    other : OneOf (1 ∷ 2 ∷ []) 0 → ⊥
-    other h = ⊎_elim (λ e. omega arith) (λ e. omega arith) h
+number_refused (Listed.Waiting n) h after = absurd (h n refl)
 number_refused Listed.NotWhole h after = refl
 number_refused Listed.BufferTooShort h after = refl
 
@@ -115,7 +109,7 @@ module _ (bytes before : List ℕ) where
     pub lists_waiting : {n : ℕ} → l ≡ Listed.Waiting n → TellsListing bytes before n after
     lists_waiting w = lists (number_waiting w after)
 
-    pub lists_refused : OneOf (1 ∷ 2 ∷ []) (tag_of the_type l) → {r : ℕ} → r ≡ number_in (listed_in l []).verdict → TellsListing bytes before (256 * r) after
+    pub lists_refused : ((n : ℕ) → l ≡ Listed.Waiting n → ⊥) → {r : ℕ} → r ≡ number_in (listed_in l []).verdict → TellsListing bytes before (256 * r) after
     lists_refused o n = lists (ap (λ (k : ℕ). 256 * k) n ∙ number_refused l o after)
 
 -- ---- whether a block is whole

@@ -6,8 +6,6 @@ use mathlib.Core.List.{List, [], ◌∷◌, ◌++◌}
 use Prim.Native.Nat.{ℕ, ◌+◌, ◌*◌, ◌≤◌, ◌<◌}
 use native.Mathlib.Numerals.{add-one}
 use native.Mathlib.Omega.{arith}
-use types.Run.{OneOf}
-use denote.Enum.Declared.{tag_of}
 use borrow.Author.Tests.{eq-eqb, ne_eqb}
 use lib.ListN.{length, get_or, take, drop, set, drop_of_length-le, length-map, get_or-map}
 use lib.Seq.{drop-cons, get_or-take, length-take-le}
@@ -30,7 +28,6 @@ use Rattle.kernel.specs.declared.asks.Planned.{Planned}
 use Rattle.kernel.specs.Block.{view_of, Whole}
 use Rattle.kernel.specs.Asks.{asked_in, PlansAs, GivesPlan}
 use Rattle.kernel.proofs.Fifteen.{then_15}
-use Rattle.kernel.specs.contracts.asks.Asked.{the_type}
 use Rattle.image.specs.Bytes.{size, block_in}
 use Rattle.export.specs.Door.{number_by, point_numbers, plan_numbers, PlanPut, PlansBy, TellsPlan}
 
@@ -90,8 +87,8 @@ plan_few b k p g = go g.whole g.decides g.then
 number_given : {a : Asked} → a ≡ Asked.Given → (n : ℕ) → n ≡ number_by n (asked_in a)
 number_given e n = rw e refl
 
-number_not_given : (a : Asked) → OneOf (1 ∷ 2 ∷ []) (tag_of the_type a) → (n : ℕ) → 256 * number_in (asked_in a) ≡ number_by n (asked_in a)
-number_not_given Asked.Given h n = absurd (⊎_elim (λ e. omega arith) (λ e. omega arith) h)
+number_not_given : (a : Asked) → (a ≡ Asked.Given → ⊥) → (n : ℕ) → 256 * number_in (asked_in a) ≡ number_by n (asked_in a)
+number_not_given Asked.Given h n = absurd (h refl)
 number_not_given Asked.NotWhole h n = refl
 number_not_given Asked.NoSuchTask h n = refl
 
@@ -114,5 +111,5 @@ module _ (bytes : List ℕ) (k : ℕ) (before : List ℕ) where
     pub plans_given : p.answer ≡ Asked.Given → TellsPlan bytes k before p.plan.count after
     plans_given is = plans (number_given is p.plan.count)
 
-    pub plans_refused : OneOf (1 ∷ 2 ∷ []) (tag_of the_type p.answer) → {r : ℕ} → r ≡ number_in (asked_in p.answer) → TellsPlan bytes k before (256 * r) after
+    pub plans_refused : (p.answer ≡ Asked.Given → ⊥) → {r : ℕ} → r ≡ number_in (asked_in p.answer) → TellsPlan bytes k before (256 * r) after
     plans_refused o n = plans (ap (λ (m : ℕ). 256 * m) n ∙ number_not_given p.answer o p.plan.count)

@@ -4,8 +4,6 @@ use mathlib.Core.Bool.{Bool, true, false, and-false}
 use mathlib.Core.List.{List, [], ◌∷◌, ◌++◌}
 use Prim.Native.Nat.{ℕ, zero, suc, ◌-◌}
 use native.Mathlib.Omega.{arith}
-use types.Run.{OneOf}
-use denote.Enum.Declared.{tag_of}
 use lib.ListN.{length, take, replicate}
 use Rattle.laws.specs.Words.{pick}
 use Rattle.rules.specs.Numbers.{Refusal, Passed, Failed, first_of}
@@ -20,7 +18,6 @@ use Rattle.table.specs.declared.Table.{Table}
 use Rattle.table.specs.declared.Verdict.{Verdict}
 use Rattle.table.specs.declared.Verdict.TheVariants as Verdict
 use Rattle.table.specs.Stored.{table_of, verdict_in}
-use Rattle.table.specs.contracts.Verdict.{the_type}
 use Rattle.table.proofs.Tests.{table_length, verdict_one, not_sound}
 use Rattle.levels.proofs.Copies.{laid_first}
 use Rattle.lists.specs.Links.{Sized}
@@ -45,7 +42,7 @@ module _ (table : Table) (reading : ℕ) where
   starts_sound {b} e laid f =
       record { verdict = sym e; block = rw e (subst (λ (q : List ℕ). Fresh (record { table = table; rising = q }) reading b) laid f) }
 
-  pub starts_refused : (v : Verdict) {b : Block} {tasks : Tasks} → OneOf (1 ∷ 2 ∷ 3 ∷ 4 ∷ []) (tag_of the_type v) → verdict_in v ≡ verdict_of (table_of table)
+  pub starts_refused : (v : Verdict) {b : Block} {tasks : Tasks} → (v ≡ Verdict.Sound → ⊥) → verdict_in v ≡ verdict_of (table_of table)
       → tasks ≡ no_tasks → Fresh tasks 0 b → Starts table reading (record { verdict = v; block = b })
   starts_refused v {b} h e none f = record { verdict = e; block = rw (sym e ∙ (not_sound v h).1) (subst (λ (t : Tasks). Fresh t 0 b) none f) }
 

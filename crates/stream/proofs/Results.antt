@@ -5,8 +5,6 @@ use mathlib.Core.List.{List, [], ◌∷◌}
 use Prim.Native.Nat.{ℕ, ◌≤◌}
 use native.Mathlib.Omega.{arith}
 use lib.Dec.{eqb}
-use types.Run.{OneOf}
-use denote.Enum.Declared.{tag_of}
 use Rattle.laws.specs.Words.{pick}
 use Rattle.rules.specs.Numbers.{Refusal, Failed, longest, number_in, given_with}
 use Rattle.rules.specs.Records.{stream_of}
@@ -14,7 +12,6 @@ use Rattle.rules.proofs.Readable.{stream_numbers}
 use Rattle.stream.specs.declared.Stream.{Stream}
 use Rattle.stream.specs.declared.Stream.TheVariants as Stream
 use Rattle.stream.specs.Answer.{stream_in}
-use Rattle.stream.specs.contracts.Stream.{the_type}
 
 -- the one that has this number, and this offset with it
 abbrev stream_by : ℕ → ℕ → Stream
@@ -37,11 +34,8 @@ stream_one a b e = numbers_one a b (ap number_in e) (ap given_with e)
 
 -- ---- an answer that is not `Readable` is a refusal
 
-pub not_readable : (t : Stream) → OneOf (1 ∷ 2 ∷ 3 ∷ []) (tag_of the_type t) → (q : Refusal) × (stream_in t ≡ Failed q)
-not_readable Stream.Readable h = absurd (other h)
-  where
-    other : OneOf (1 ∷ 2 ∷ 3 ∷ []) 0 → ⊥
-    other h = ⊎_elim (λ e. omega arith) (⊎_elim (λ e. omega arith) (λ e. omega arith)) h
+pub not_readable : (t : Stream) → (t ≡ Stream.Readable → ⊥) → (q : Refusal) × (stream_in t ≡ Failed q)
+not_readable Stream.Readable h = absurd (h refl)
 not_readable (Stream.Unreadable n) h = (_, refl)
 not_readable (Stream.TaskBehindEvent n) h = (_, refl)
 not_readable Stream.TooLong h = (_, refl)

@@ -8,4 +8,4 @@ returns-then-block-ne-BLOCK_BYTES c = let s = c in tells_none _ s.args.block.now
 
 pub returns : goal.returns
 returns c = let called = c in let test = called in let s = test in
-    tells _ s.args.block.now s.args.answer.now test.if-block-ne-BLOCK_BYTES.false called.load.ensures _ (called_sizes called.clock-called.result _ called.clock-called.type-inv) called.clock-called.ensures _ _ _ c.answered.ensures
+    tells _ s.args.block.now s.args.answer.now test.if-block-ne-BLOCK_BYTES.false called.load.ensures _ (called_sizes called.clock-called.result _ called.clock-called.type_inv) called.clock-called.ensures _ _ _ c.answered.ensures

@@ -11,4 +11,4 @@ returns-in-Waiting c = let listed = c in let test = listed in let s = test in
 
 pub returns-in_default : goal.returns-in_default
 returns-in_default c = let listed = c in let test = listed in let s = test in
-    lists_refused s.args.block.now s.args.buffer.now test.if-block-ne-BLOCK_BYTES.false listed.load.ensures listed.listing-listed.result _ listed.listing-listed.ensures c.in_default.in_default-own.keys2 c.number.ensures
+    lists_refused s.args.block.now s.args.buffer.now test.if-block-ne-BLOCK_BYTES.false listed.load.ensures listed.listing-listed.result _ listed.listing-listed.ensures c.in_default.not-Waiting c.number.ensures

@@ -14,4 +14,4 @@ returns-in-Given c = let put = c in let asked = put in let test = asked in let s
 
 pub returns-in_default : goal.returns-in_default
 returns-in_default c = let put = c in let asked = put in let test = asked in let s = test in
-    plans_refused s.args.block.now _ s.args.points.now test.if-block-ne-BLOCK_BYTES.false asked.load.ensures asked.plan-planned.result asked.plan-planned.ensures put.put_plan.ensures c.in_default.in_default-own.keys2 c.number.ensures
+    plans_refused s.args.block.now _ s.args.points.now test.if-block-ne-BLOCK_BYTES.false asked.load.ensures asked.plan-planned.result asked.plan-planned.ensures put.put_plan.ensures c.in_default.not-Given c.number.ensures

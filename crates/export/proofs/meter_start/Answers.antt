@@ -29,12 +29,12 @@ pub returns-in-Sound : goal.returns-in-Sound
 returns-in-Sound c = let begun = c in let tested = begun in
     let test = tested in let s = test in
     begins_sound s.args.stream.now s.args.reading s.args.block.now test.if-block-ne-BLOCK_BYTES.false
-    (readable (goal.at.returns-in-Sound c).In-Readable) _ begun.table_in-table.ensures begun.start-started.result begun.start-started.ensures (ap verdict_in c.in-Sound.is) (started_sizes begun.start-started.result _ begun.start-started.type-inv) c.save.ensures
+    (readable (goal.at.returns-in-Sound c).In-Readable) _ begun.table_in-table.ensures begun.start-started.result begun.start-started.ensures (ap verdict_in c.in-Sound.is) (started_sizes begun.start-started.result _ begun.start-started.type_inv) c.save.ensures
 
 pub returns-in-Readable : goal.returns-in-Readable
 returns-in-Readable c = let begun = c in let tested = begun in
     let test = tested in let s = test in
-    let refusal = not_sound begun.start-started.result.verdict c.in_default-verdict.in_default-verdict-own.keys2 in
+    let refusal = not_sound begun.start-started.result.verdict c.in_default-verdict.not-Sound in
     begins_refused s.args.stream.now s.args.reading s.args.block.now test.if-block-ne-BLOCK_BYTES.false
     (readable (goal.at.returns-in-Readable c).In-Readable) _ begun.table_in-table.ensures begun.start-started.result begun.start-started.ensures refusal.0 refusal.1 c.number.ensures c.task.ensures
 
@@ -46,5 +46,5 @@ overflow_add-result-2 c = omega (arith, small (goal.at.overflow_add-result-2 c).
 
 pub returns : goal.returns
 returns c = let tested = c in let test = tested in let s = test in
-    let refusal = not_readable tested.stream_test-tested.result c.in_default.in_default-own.keys2 in
+    let refusal = not_readable tested.stream_test-tested.result c.in_default.not-Readable in
     begins_unreadable s.args.stream.now s.args.reading s.args.block.now test.if-block-ne-BLOCK_BYTES.false _ refusal.0 refusal.1 tested.stream_test-tested.ensures c.number-2.ensures c.offset.ensures

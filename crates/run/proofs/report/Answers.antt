@@ -14,7 +14,7 @@ lines-requires c = let s = c in (
 
 pub returns : goal.returns
 returns c = let s = c in let begun = c.start-started in let put = c.refusal_line.ensures in
-    let refusal = not_sound begun.result.verdict c.in_default.in_default-own.keys2 in (
+    let refusal = not_sound begun.result.verdict c.in_default.not-Sound in (
       numbers_put c.number.ensures c.task.ensures
           (table_refused s.args.stream.now s.requires.0 _ c.table_in-table.ensures _ begun.ensures refusal.0 refusal.1) put.0,
       omega (arith, put.1),

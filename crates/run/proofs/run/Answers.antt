@@ -22,7 +22,7 @@ refusal_line-requires c = omega (arith, c.if-out-lt-ROOM.false)
 
 pub returns : goal.returns
 returns c = let s = c in let tested = c.stream_test-tested in let put = c.refusal_line.ensures in
-    let refusal = not_readable tested.result c.in_default.in_default-own.keys2 in (
+    let refusal = not_readable tested.result c.in_default.not-Readable in (
       enough s.args.stream.now s.args.out.now (omega (arith, c.if-out-lt-ROOM.false))
           (numbers_put c.number.ensures c.offset.ensures (stream_refused s.args.stream.now _ refusal.0 refusal.1 tested.ensures) put.0),
       omega (arith, put.1, puts_length put.0, c.if-out-lt-ROOM.false),

@@ -1,20 +1,18 @@
 use mathlib.Core.Path.{◌≡◌, sym, ap, ◌∙◌}
 use mathlib.Core.List.{List, [], ◌∷◌}
-use types.Run.{OneOf}
-use denote.Enum.Declared.{tag_of}
 use borrow.Author.Rules.{rules}
 use Rattle.rules.specs.Numbers.{Passed, first_of}
 use Rattle.rules.specs.Table.{Task, tests_to3, verdict_of}
 use Rattle.rules.proofs.Tables.{to_3_failed}
 use Rattle.table.specs.declared.Verdict.{Verdict}
 use Rattle.table.specs.Stored.{table_of, verdict_in}
-use Rattle.table.specs.contracts.Verdict.{the_type}
+use Rattle.table.specs.declared.Verdict.TheVariants.{Sound}
 use Rattle.table.proofs.Tests.{overloaded, sound, not_sound}
 use Rattle.table.proofs.table_test.Goals as goal
 use Rattle.table.proofs.table_test.Goals.{In-Sound}
 
 -- a refusal by tests 1 to 3 stands
-kept : (v : Verdict) (table : List Task) → OneOf (1 ∷ 2 ∷ 3 ∷ 4 ∷ []) (tag_of the_type v) → verdict_in v ≡ first_of (tests_to3 table)
+kept : (v : Verdict) (table : List Task) → (v ≡ Sound → ⊥) → verdict_in v ≡ first_of (tests_to3 table)
     → verdict_in v ≡ verdict_of table
 kept v table h e = let r = not_sound v h in r.1 ∙ sym (to_3_failed table r.0 (sym e ∙ r.1))
 
@@ -31,4 +29,4 @@ pub returns-else-load-gt-FULL_LOAD : goal.returns-else-load-gt-FULL_LOAD
 returns-else-load-gt-FULL_LOAD c = sym (sound _ (passed (goal.at.returns-else-load-gt-FULL_LOAD c).In-Sound) (rw c.load.ensures at c.if-load-gt-FULL_LOAD.false))
 
 pub returns-in_default : goal.returns-in_default
-returns-in_default c = kept c.tests_to_3-verdict.result _ c.in_default.in_default-own.keys2 c.tests_to_3-verdict.ensures
+returns-in_default c = kept c.tests_to_3-verdict.result _ c.in_default.not-Sound c.tests_to_3-verdict.ensures

@@ -24,4 +24,4 @@ pub returns-in-Sound : goal.returns-in-Sound
 returns-in-Sound c = decides_same _ _ c.agrees.result (λ e. record { table = passed (goal.at.returns-in-Sound c).In-Sound; copy = e }) (λ w. w.copy) c.agrees.ensures
 
 pub returns : goal.returns
-returns c = λ w. let r = not_sound c.tests_to_3-verdict.result c.in_default.in_default-own.keys2 in passed_failed _ r.0 (c.tests_to_3-verdict.ensures ∙ w.table-1) r.1
+returns c = λ w. let r = not_sound c.tests_to_3-verdict.result c.in_default.not-Sound in passed_failed _ r.0 (c.tests_to_3-verdict.ensures ∙ w.table) r.1

@@ -26,5 +26,5 @@ returns-in-Sound c = let a = c.args in
 
 pub returns : goal.returns
 returns c = let a = c.args in
-    starts_refused a.table a.reading c.table_test-verdict.result c.in_default.in_default-own.keys2 c.table_test-verdict.ensures
+    starts_refused a.table a.reading c.table_test-verdict.result c.in_default.not-Sound c.table_test-verdict.ensures
     c.no_tasks-tasks.ensures c.fresh-block-2.ensures
