@@ -10,9 +10,6 @@ returns-in-None c = let sign = c in
     rw arm.in-None.is (puts_then blank.put_byte-next.ensures sign.put_byte.ensures, search rules)
 
 pub returns-in-Ticks : goal.returns-in-Ticks
-returns-in-Ticks c = let ticks = c in
-    let arm = ticks in
-    let blank = arm in
-    let known = arm.margin-1.given in
-    let number = puts_as (text_in_word known.0.0 (record { sfits = arm.in-Ticks.known_told-1-own.given.0.1 })) ticks.put_signed.ensures.0 in
-    rw known.1 (puts_then blank.put_byte-next.ensures number, search rules)
+returns-in-Ticks c =
+    let number = puts_as (text_in_word c.in-Ticks.ticks (search rules)) c.put_signed.ensures.0 in
+    rw c.in-Ticks.is (puts_then c.put_byte-next.ensures number, search rules)

@@ -1,11 +1,10 @@
 use mathlib.Core.Path.{◌≡◌}
-use Prim.Native.Nat.{◌-◌, ◌≤◌}
 use native.Mathlib.Omega.{arith}
 use borrow.Author.Rules.{rules}
 use lib.ListN.{length}
 use Rattle.laws.proofs.Arrays.{long_map}
 use Rattle.rules.specs.Table.{most}
-use Rattle.lines.proofs.Points.{PointsPut, points_none, points_next, points_all}
+use Rattle.lines.proofs.Points.{points_none, points_next, points_all}
 use Rattle.lines.proofs.put_points.Goals as goal
 use Rattle.lines.proofs.put_points.Goals.{Start}
 

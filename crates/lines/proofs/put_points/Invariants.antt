@@ -1,11 +1,5 @@
-use mathlib.Core.Path.{◌≡◌}
 use Prim.Native.Nat.{◌-◌, ◌≤◌}
-use native.Mathlib.Omega.{arith}
-use borrow.Author.Rules.{rules}
-use lib.ListN.{length}
-use Rattle.laws.proofs.Arrays.{long_map}
-use Rattle.rules.specs.Table.{most}
-use Rattle.lines.proofs.Points.{PointsPut, points_none, points_next, points_all}
+use Rattle.lines.proofs.Points.{PointsPut}
 use Rattle.lines.proofs.put_points.Given as goal
 
 abbrev pub invariant-loop-i : goal.invariant-loop-i

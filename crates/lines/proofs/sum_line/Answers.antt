@@ -1,4 +1,3 @@
-use borrow.Author.Rules.{rules}
 use Rattle.rules.specs.Text.{sum_text}
 use Rattle.lines.proofs.sum_line.Goals as goal
 
