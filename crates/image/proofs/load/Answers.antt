@@ -1,4 +1,3 @@
-use borrow.Author.Rules.{rules}
 use Rattle.image.specs.Bytes.{block_in}
 use Rattle.image.proofs.load.Goals as goal
 

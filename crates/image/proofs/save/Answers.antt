@@ -1,5 +1,4 @@
 use native.Mathlib.Omega.{arith}
-use borrow.Author.Rules.{rules}
 use Rattle.laws.proofs.Buffers.{puts_written, puts_behind}
 use Rattle.image.specs.Bytes.{bytes_of}
 use Rattle.image.proofs.save.Goals as goal

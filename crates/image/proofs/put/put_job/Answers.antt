@@ -1,7 +1,6 @@
 use native.Mathlib.Omega.{arith}
-use borrow.Author.Rules.{rules}
 use lib.ListN.{length-set}
-use Rattle.laws.proofs.Buffers.{puts_length, puts_byte, puts_to, puts_behind}
+use Rattle.laws.proofs.Buffers.{puts_byte, puts_to, puts_behind}
 use Rattle.image.proofs.Putting.{byte_is}
 use Rattle.image.proofs.put.put_job.Goals as goal
 

@@ -1,7 +1,6 @@
 use native.Mathlib.Omega.{arith}
-use borrow.Author.Rules.{rules}
 use lib.ListN.{length-set}
-use Rattle.laws.proofs.Buffers.{puts_then, puts_length, puts_byte, puts_to}
+use Rattle.laws.proofs.Buffers.{puts_then, puts_byte, puts_to}
 use Rattle.image.proofs.put.put_last.Goals as goal
 
 pub put_little-requires : goal.put_little-requires

@@ -1,7 +1,5 @@
 use Prim.Native.Nat.{◌-◌, ◌≤◌}
-use native.Mathlib.Omega.{arith}
-use borrow.Author.Rules.{rules}
-use Rattle.image.proofs.Putting.{NumberLeft, number_start, number_next, number_put}
+use Rattle.image.proofs.Putting.{NumberLeft}
 use Rattle.image.proofs.put.put_little.Given as goal
 
 abbrev pub invariant-loop-i : goal.invariant-loop-i

@@ -1,5 +1,4 @@
 use mathlib.Core.Path.{◌≡◌}
-use Prim.Native.Nat.{◌+◌, ◌*◌, ◌-◌, ◌≤◌}
 use native.Mathlib.Omega.{arith}
 use borrow.Author.Rules.{rules}
 use lib.ListN.{length}
@@ -7,7 +6,7 @@ use Rattle.laws.proofs.Arrays.{long_map}
 use Rattle.laws.proofs.Buffers.{puts_length}
 use Rattle.rules.specs.Table.{most}
 use Rattle.image.specs.Bytes.{little}
-use Rattle.image.proofs.Putting.{FirstPut, none_put, next_put, all_put}
+use Rattle.image.proofs.Putting.{none_put, next_put, all_put}
 use Rattle.image.proofs.put.put_numbers.Goals as goal
 
 pub loop-i-init : goal.loop-i-init
@@ -19,10 +18,10 @@ put_little-requires c = omega (arith, puts_length c.loop-i.invariant.1)
 pub loop-i-preserved : goal.loop-i-preserved
 loop-i-preserved c = let a = c.args in
     let now = c.loop-i in
-    let all : length a.t3 ≡ most = search (rules, long_map) in
+    let all : length a.numbers ≡ most = search (rules, long_map) in
     (omega arith, next_put (little 4) _ _ now.i (omega arith) now.invariant.1 c.put_little.ensures (omega arith))
 
 pub returns : goal.returns
 returns c = let a = c.args in
-    let all : length a.t3 ≡ most = search (rules, long_map) in
+    let all : length a.numbers ≡ most = search (rules, long_map) in
     all_put (little 4) _ c.loop-i.i (omega arith) c.loop-i.invariant.1 (omega arith)

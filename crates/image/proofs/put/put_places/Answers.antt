@@ -1,5 +1,5 @@
 use mathlib.Core.Path.{◌≡◌}
-use Prim.Native.Nat.{◌+◌, ◌-◌, ◌≤◌}
+use Prim.Native.Nat.{◌+◌}
 use native.Mathlib.Omega.{arith}
 use borrow.Author.Rules.{rules}
 use lib.ListN.{length}
@@ -7,7 +7,7 @@ use Rattle.laws.proofs.Arrays.{long_map}
 use Rattle.laws.proofs.Buffers.{puts_length, puts_byte}
 use Rattle.rules.specs.Table.{most}
 use Rattle.image.specs.Bytes.{task_no_bytes}
-use Rattle.image.proofs.Putting.{FirstPut, none_put, next_put, all_put}
+use Rattle.image.proofs.Putting.{none_put, next_put, all_put}
 use Rattle.image.proofs.put.put_places.Goals as goal
 
 pub loop-i-init : goal.loop-i-init
@@ -19,10 +19,10 @@ bounds-bytes-at c = omega (arith, puts_length c.loop-i.invariant.1)
 pub loop-i-preserved : goal.loop-i-preserved
 loop-i-preserved c = let a = c.args in
     let now = c.loop-i in
-    let all : length a.t3 ≡ most + 1 = search (rules, long_map) in
+    let all : length a.places ≡ most + 1 = search (rules, long_map) in
     (omega arith, next_put task_no_bytes _ _ now.i (omega arith) now.invariant.1 (puts_byte _ _ _) (omega arith))
 
 pub returns : goal.returns
 returns c = let a = c.args in
-    let all : length a.t3 ≡ most + 1 = search (rules, long_map) in
+    let all : length a.places ≡ most + 1 = search (rules, long_map) in
     all_put task_no_bytes _ c.loop-i.i (omega arith) c.loop-i.invariant.1 (omega arith)

@@ -1,13 +1,7 @@
-use mathlib.Core.Path.{◌≡◌}
 use Prim.Native.Nat.{◌+◌, ◌-◌, ◌≤◌}
-use native.Mathlib.Omega.{arith}
-use borrow.Author.Rules.{rules}
-use lib.ListN.{length}
-use Rattle.laws.proofs.Arrays.{long_map}
-use Rattle.laws.proofs.Buffers.{puts_length, puts_byte}
 use Rattle.rules.specs.Table.{most}
 use Rattle.image.specs.Bytes.{task_no_bytes}
-use Rattle.image.proofs.Putting.{FirstPut, none_put, next_put, all_put}
+use Rattle.image.proofs.Putting.{FirstPut}
 use Rattle.image.proofs.put.put_places.Given as goal
 
 abbrev pub invariant-loop-i : goal.invariant-loop-i

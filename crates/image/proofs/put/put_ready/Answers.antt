@@ -1,6 +1,5 @@
 use mathlib.Core.Path.{ap}
 use native.Mathlib.Omega.{arith}
-use borrow.Author.Rules.{rules}
 use Rattle.laws.proofs.Buffers.{puts_as, puts_to, puts_behind}
 use Rattle.image.specs.Bytes.{stored_bytes}
 use Rattle.image.proofs.put.put_ready.Goals as goal

@@ -1,5 +1,4 @@
 use native.Mathlib.Omega.{arith}
-use borrow.Author.Rules.{rules}
 use Rattle.laws.proofs.Buffers.{puts_to, puts_behind}
 use Rattle.image.proofs.put.put_tasks.Goals as goal
 

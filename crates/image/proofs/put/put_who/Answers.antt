@@ -1,5 +1,4 @@
 use native.Mathlib.Omega.{arith}
-use borrow.Author.Rules.{rules}
 use lib.ListN.{length-set}
 use Rattle.laws.proofs.Buffers.{puts_then, puts_byte, puts_to}
 use Rattle.image.proofs.put.put_who.Goals as goal

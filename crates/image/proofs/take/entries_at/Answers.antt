@@ -1,10 +1,6 @@
-use Prim.Native.Nat.{◌-◌, ◌≤◌}
 use native.Mathlib.Omega.{arith}
-use borrow.Author.Rules.{rules}
-use Rattle.rules.specs.Table.{most}
 use Rattle.table.specs.Stored.{no_entry}
-use Rattle.image.specs.Bytes.{task_from}
-use Rattle.image.proofs.Taking.{FirstTaken, none_taken, next_taken, all_taken}
+use Rattle.image.proofs.Taking.{none_taken, next_taken, all_taken}
 use Rattle.image.proofs.take.entries_at.Goals as goal
 
 pub loop-i-init : goal.loop-i-init

@@ -1,11 +1,7 @@
 use mathlib.Core.Bool.{false}
 use Rattle.jobs.specs.declared.Last.TheVariants.{Never}
-use Prim.Native.Nat.{◌+◌, ◌-◌, ◌≤◌}
 use native.Mathlib.Omega.{arith}
-use borrow.Author.Rules.{rules}
-use Rattle.rules.specs.Table.{most}
-use Rattle.image.specs.Bytes.{job_from}
-use Rattle.image.proofs.Taking.{FirstTaken, none_taken, next_taken, all_taken}
+use Rattle.image.proofs.Taking.{none_taken, next_taken, all_taken}
 use Rattle.image.proofs.take.jobs_at.Goals as goal
 
 pub loop-i-init : goal.loop-i-init

@@ -1,9 +1,5 @@
-use Prim.Native.Nat.{◌-◌, ◌≤◌}
 use native.Mathlib.Omega.{arith}
-use borrow.Author.Rules.{rules}
-use Rattle.rules.specs.Table.{most}
-use Rattle.rules.specs.Records.{word}
-use Rattle.image.proofs.Taking.{FirstTaken, none_taken, next_taken, all_taken}
+use Rattle.image.proofs.Taking.{none_taken, next_taken, all_taken}
 use Rattle.image.proofs.take.numbers_at.Goals as goal
 
 pub loop-i-init : goal.loop-i-init

@@ -1,10 +1,7 @@
-use mathlib.Core.Path.{refl}
 use Prim.Native.Nat.{◌+◌, ◌-◌, ◌≤◌}
-use native.Mathlib.Omega.{arith}
-use borrow.Author.Rules.{rules}
 use Rattle.rules.specs.Table.{most}
 use Rattle.image.specs.Bytes.{task_no_from}
-use Rattle.image.proofs.Taking.{FirstTaken, none_taken, next_taken, all_taken}
+use Rattle.image.proofs.Taking.{FirstTaken}
 use Rattle.image.proofs.take.places_at.Given as goal
 
 abbrev pub invariant-loop-i : goal.invariant-loop-i

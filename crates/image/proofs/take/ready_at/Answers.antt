@@ -1,4 +1,3 @@
-use borrow.Author.Rules.{rules}
 use Rattle.image.proofs.take.ready_at.Goals as goal
 
 pub returns : goal.returns
