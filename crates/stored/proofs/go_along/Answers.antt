@@ -1,12 +1,10 @@
-use mathlib.Core.Bool.{not}
 use borrow.Author.Rules.{rules}
-use Rattle.laws.specs.Words.{count}
 use Rattle.lists.specs.Answers.{lists_of}
-use Rattle.stored.proofs.Seeing.{Going, going_starts, going_ends, going_misses, going_strays, going_meets, going_falls, going_turns}
+use Rattle.stored.proofs.Seeing.{going_starts, going_ends, going_misses, going_strays, going_meets, going_falls, going_turns}
 use Rattle.stored.proofs.go_along.Goals as goal
 
 pub loop-x-init : goal.loop-x-init
-loop-x-init c = going_starts (lists_of c.args.stored) c.args.l c.args (search rules)
+loop-x-init c = going_starts (lists_of c.args.stored) c.args.l c.args.before (search rules)
 
 pub returns-then-n-gt-MOST : goal.returns-then-n-gt-MOST
 returns-then-n-gt-MOST c = going_strays c.loop-x.invariant c.loop-x-test.true (search rules)

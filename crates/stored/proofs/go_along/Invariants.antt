@@ -1,8 +1,7 @@
 use mathlib.Core.Bool.{not}
-use borrow.Author.Rules.{rules}
 use Rattle.laws.specs.Words.{count}
 use Rattle.lists.specs.Answers.{lists_of}
-use Rattle.stored.proofs.Seeing.{Going, going_starts, going_ends, going_misses, going_strays, going_meets, going_falls, going_turns}
+use Rattle.stored.proofs.Seeing.{Going}
 use Rattle.stored.proofs.go_along.Given as goal
 
 abbrev pub invariant-loop-x : goal.invariant-loop-x

@@ -21,11 +21,11 @@ pub returns-then-last-ne0 : goal.returns-then-last-ne0
 returns-then-last-ne0 c = λ h. c.if-last-ne0.true (holds_last h)
 
 pub returns-then-not-map_true : goal.returns-then-not-map_true
-returns-then-not-map_true c = λ h. let e : c.map_true.result ≡ false = not-true _ c.if-not-map_true.true-raw in (rw e at c.map_true.ensures) (holds_map h)
+returns-then-not-map_true c = λ h. let e : c.map_true.result ≡ false = search (rules, not-true) in (rw e at c.map_true.ensures) (holds_map h)
 
 pub returns : goal.returns
 returns c =
-    let e : c.map_true.result ≡ true = not-false _ c.if-not-map_true.false-raw in
+    let e : c.map_true.result ≡ true = search (rules, not-false) in
     let m = rw e at c.map_true.ensures in
     let s = sized (goal.at.returns c).Start in
     let f = c.if-first-ne0.false in

@@ -1,9 +1,7 @@
 use Prim.Native.Nat.{suc, ◌-◌}
-use borrow.Author.Rules.{rules}
-use borrow.Author.Tests.{not-true, not-false}
 use Rattle.rules.specs.Table.{most}
 use Rattle.lists.specs.Answers.{lists_of}
-use Rattle.stored.proofs.Seeing.{Seeing, seeing_starts, seeing_ends, seeing_refutes, seeing_turns}
+use Rattle.stored.proofs.Seeing.{Seeing}
 use Rattle.stored.proofs.lists_hold.Given as goal
 
 abbrev pub invariant-loop-l : goal.invariant-loop-l

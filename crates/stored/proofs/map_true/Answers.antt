@@ -1,14 +1,7 @@
-use mathlib.Core.Path.{◌≡◌}
-use mathlib.Core.Bool.{not}
-use Prim.Native.Nat.{ℕ, ◌+◌, ◌-◌, ◌≤◌, ◌<◌}
 use native.Mathlib.Omega.{arith}
 use borrow.Author.Count.{below_more}
 use borrow.Author.Rules.{rules}
-use lib.Dec.{eqb}
-use Rattle.laws.specs.Words.{digit}
 use Rattle.laws.specs.Bits.{bit_at}
-use Rattle.rules.specs.Table.{most}
-use Rattle.lists.specs.Links.{at}
 use Rattle.stored.proofs.map_true.Goals as goal
 
 pub returns-then-stored-k : goal.returns-then-stored-k
