@@ -1,16 +1,10 @@
-use mathlib.Core.Path.{◌≡◌, sym, ap, ◌∙◌}
-use mathlib.Core.Logic.{⊎_elim}
-use mathlib.Core.List.{List}
-use Prim.Native.Nat.{ℕ, ◌+◌, ◌-◌, ◌≤◌}
-use native.Mathlib.Omega.{arith}
-use borrow.Author.Rules.{rules}
-use lib.ListN.{length}
-use Rattle.rules.specs.Records.{record_at}
+use Rattle.std.proofs.Common.{sym, ap, ◌∙◌, arith, rules}
 use Rattle.rules.proofs.Streams.{read_within}
 use Rattle.records.specs.declared.Record.{Record}
-use Rattle.records.specs.Read.{call_in, record_in, read_as, found_in}
-use Rattle.stream.proofs.Loading.{Loaded, loaded_start, loaded_count, loaded_past, loaded_end, loaded_bad, loaded_event, loaded_task}
+use Rattle.records.specs.Read.{call_in, record_in, read_as}
+use Rattle.stream.proofs.Loading.{loaded_start, loaded_count, loaded_past, loaded_end, loaded_bad, loaded_event, loaded_task}
 use Rattle.stream.proofs.table_in.Goals as goal
+use Rattle.stream.proofs.table_in.Goals.{in-Task, in_default}
 
 pub loop-at-init : goal.loop-at-init
 loop-at-init c = (search rules, loaded_start _)
@@ -18,28 +12,33 @@ loop-at-init c = (search rules, loaded_start _)
 pub added-more-requires : goal.added-more-requires
 added-more-requires c = omega (arith, loaded_count _ _ _ c.loop-at.invariant.1)
 
+-- a record that was read has bytes, and they are all there
 pub overflow_add-at : goal.overflow_add-at
-overflow_add-at c = omega (arith, within c)
+overflow_add-at c = omega (arith, read_within c.args.stream.now c.loop-at.at (record_in c.in-Read.record) c.in-Read.size (sym c.in-Read.ensures))
 
 pub loop-at-smaller : goal.loop-at-smaller
-loop-at-smaller c = omega (arith, within c)
+loop-at-smaller c = omega (arith, read_within c.args.stream.now c.loop-at.at (record_in c.in-Read.record) c.in-Read.size (sym c.in-Read.ensures))
 
 pub loop-at-preserved : goal.loop-at-preserved
-loop-at-preserved c = let b = c in
-    let now = b.loop-at.invariant.1 in
-    ⊎_elim
-    (λ w. (
-      (within b).1,
-      rw w.4 (loaded_task _ _ _ now w.1.given.0.0 (size b) _ (here b ∙ ap (λ (x : Record). read_as x (size b)) w.1.given.1) w.3.ensures),
-    ))
-    (λ w. ((within b).1, rw w.2 (loaded_event _ _ _ now (call_in w.1.given.0.0) (size b) (here b ∙ ap (λ (x : Record). read_as x (size b)) w.1.given.1))))
-    c.match-record.branch
+loop-at-preserved c = (
+  (read_within c.args.stream.now c.loop-at.at (record_in c.in-Read.record) c.in-Read.size (sym c.in-Read.ensures)).1,
+  elim c.match-record.branch [
+    | in-Task w ↦
+        rw w.table-is
+        (loaded_task c.args.stream.now c.loop-at.at c.loop-at.table c.loop-at.invariant.1 w.in-Task.task c.in-Read.size w.added-more.result
+        (sym c.in-Read.ensures ∙ ap (λ (x : Record). read_as x c.in-Read.size) w.in-Task.is) w.added-more.ensures)
+    | in_default w ↦
+        rw w.table-is
+        (loaded_event c.args.stream.now c.loop-at.at c.loop-at.table c.loop-at.invariant.1 (call_in w.in_default.field-0) c.in-Read.size
+        (sym c.in-Read.ensures ∙ ap (λ (x : Record). read_as x c.in-Read.size) w.in_default.is))
+  ],
+)
 
 pub returns-in-End : goal.returns-in-End
-returns-in-End c = loaded_end _ _ _ c.loop-at.invariant.1 (sym c.read-found.ensures ∙ ap found_in c.in-End.is)
+returns-in-End c = loaded_end _ _ _ c.loop-at.invariant.1 (sym c.in-End.ensures)
 
 pub returns-in-Bad : goal.returns-in-Bad
-returns-in-Bad c = loaded_bad _ _ _ c.loop-at.invariant.1 (sym c.read-found.ensures ∙ ap found_in c.in-Bad.is)
+returns-in-Bad c = loaded_bad _ _ _ c.loop-at.invariant.1 (sym c.in-Bad.ensures)
 
 pub returns : goal.returns
 returns c = loaded_past _ _ _ c.loop-at.invariant.1 c.loop-at-test.false
