@@ -1,6 +1,5 @@
 use mathlib.Core.Path.{ap}
 use native.Mathlib.Omega.{arith}
-use borrow.Author.Rules.{rules}
 use Rattle.table.specs.Stored.{verdict_in}
 use Rattle.table.proofs.Tests.{not_sound}
 use Rattle.run.proofs.Output.{table_sound, table_refused, numbers_put}

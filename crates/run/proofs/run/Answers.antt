@@ -1,6 +1,5 @@
 use mathlib.Core.Path.{sym, ap, ◌∙◌}
 use native.Mathlib.Omega.{arith}
-use borrow.Author.Rules.{rules}
 use Rattle.laws.proofs.Buffers.{puts_length}
 use Rattle.stream.specs.Answer.{stream_in}
 use Rattle.stream.proofs.Results.{not_readable}

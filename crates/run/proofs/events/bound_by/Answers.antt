@@ -1,5 +1,4 @@
 use mathlib.Core.Path.{ap}
-use borrow.Author.Rules.{rules}
 use Rattle.records.specs.Read.{call_in}
 use Rattle.kernel.specs.Answers.{answer_in}
 use Rattle.run.proofs.events.bound_by.Goals as goal

@@ -1,4 +1,3 @@
-use borrow.Author.Rules.{rules}
 use Rattle.run.proofs.events.call.Goals as goal
 
 pub returns-in-Release : goal.returns-in-Release

@@ -1,17 +1,20 @@
 use mathlib.Core.Path.{◌≡◌, sym, ap, ◌∙◌}
-use mathlib.Core.Logic.{⊎_elim}
 use mathlib.Core.List.{List}
-use Prim.Native.Nat.{ℕ, ◌+◌, ◌-◌, ◌≤◌}
+use Prim.Native.Nat.{ℕ, ◌+◌, ◌≤◌}
 use native.Mathlib.Omega.{arith}
-use borrow.Author.Rules.{rules}
 use lib.ListN.{length}
 use Rattle.rules.specs.Records.{record_at}
 use Rattle.rules.proofs.Streams.{read_within}
 use Rattle.table.specs.Stored.{task_of}
 use Rattle.records.specs.declared.Record.{Record}
 use Rattle.records.specs.Read.{call_in, record_in, read_as, found_in}
-use Rattle.run.proofs.Along.{Along, along_start, along_begins, along_room, along_past, along_end, along_bad, along_task, along_event}
+use Rattle.run.proofs.Along.{along_start, along_begins, along_room, along_past, along_end, along_bad, along_task, along_event}
 use Rattle.run.proofs.events.events.Goals as goal
+use Rattle.run.proofs.events.events.Goals.{in-Event, in_default}
+
+-- a record that was read lies within the stream
+within : (bytes : List ℕ) (offset : ℕ) (what : Record) (size : ℕ) → read_as what size ≡ record_at bytes offset → (6 ≤ size) × (offset + size ≤ length bytes)
+within bytes offset what size here = read_within bytes offset (record_in what) size (sym here)
 
 pub loop-at-init : goal.loop-at-init
 loop-at-init c = along_start _ _ _ _ c.requires.0
@@ -21,17 +24,24 @@ event-after-requires c = let t = c in let l = t in let p = l.requires in
     (along_begins _ _ _ _ _ _ _ l.loop-at.invariant p.1, along_room _ _ _ _ _ _ _ l.loop-at.invariant p.1 t.loop-at-test.true p.2)
 
 pub overflow_add-at : goal.overflow_add-at
-overflow_add-at c = omega (arith, within c)
+overflow_add-at c = omega (arith, within _ _ _ _ c.in-Read.ensures)
 
 pub loop-at-smaller : goal.loop-at-smaller
-loop-at-smaller c = omega (arith, within c)
+loop-at-smaller c = omega (arith, within _ _ _ _ c.in-Read.ensures)
 
 pub loop-at-preserved : goal.loop-at-preserved
-loop-at-preserved c = let b = c in let now = b.loop-at.invariant in
-    ⊎_elim
-    (λ w. rw (w.7, w.8) (along_event _ _ _ _ _ _ _ now (call_in w.1.given.0.0) (size b) (here b ∙ ap (λ (x : Record). read_as x (size b)) w.1.given.1) _ _ w.4.ensures))
-    (λ w. rw (w.2, w.3) (along_task _ _ _ _ _ _ _ now (task_of w.1.given.0.0) (size b) (here b ∙ ap (λ (x : Record). read_as x (size b)) w.1.given.1)))
-    c.match-item.branch
+loop-at-preserved c =
+    let now = c.loop-at.invariant in
+    let size = c.in-Read.size in
+    let here : record_at c.args.stream.now c.loop-at.at ≡ read_as c.in-Read.item size = sym c.in-Read.ensures in
+    elim c.match-item.branch [
+      | in-Event w ↦
+          let said = here ∙ ap (λ (x : Record). read_as x size) w.in-Event.is in
+          rw (w.out-is, w.now-is) (along_event _ _ _ _ _ _ _ now (call_in w.in-Event.next) size said _ _ w.event-after.ensures)
+      | in_default w ↦
+          let said = here ∙ ap (λ (x : Record). read_as x size) w.in_default.is in
+          rw (w.out-is, w.now-is) (along_task _ _ _ _ _ _ _ now (task_of w.in_default.field-0) size said)
+    ]
 
 pub returns-in-End : goal.returns-in-End
 returns-in-End c = let l = c in

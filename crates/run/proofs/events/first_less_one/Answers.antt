@@ -11,29 +11,29 @@ use Rattle.table.specs.Stored.{table_of}
 use Rattle.table.proofs.Tests.{table_length}
 use Rattle.run.proofs.Laid.{laid_place, laid_first, laid_copied}
 use Rattle.run.proofs.events.first_less_one.Goals as goal
-use Rattle.run.proofs.events.first_less_one.Goals.{After-struct_known-2-1, Start}
+use Rattle.run.proofs.events.first_less_one.Goals.{After-first_level-level, Start}
 
 long : (c : Start) → length c.args.tasks.table.tasks ≡ most
 long c = search (rules, long_map)
 
-first : (c : After-struct_known-2-1)
-    → let a = c.args in c.first_level-level.result.0 ≡ first_level (table_of a.t1.table) a.task.0
+first : (c : After-first_level-level) → c.first_level-level.result.0 ≡ first_level (table_of c.args.tasks.table) c.args.task.0
 first c =
-    let s = c in let a = s.args in
-    c.first_level-level.ensures (table_of a.t1.table) s.requires.laid.copy (table_length a.t1.table (long s))
-    ∙ laid_first a.t1 a.task.0 s.requires (long s)
+    let a = c.args in
+    let all : length a.tasks.table.tasks ≡ most = search (rules, long_map) in
+    c.first_level-level.ensures (table_of a.tasks.table) c.requires.laid.copy (table_length a.tasks.table all)
+    ∙ laid_first a.tasks a.task.0 c.requires all
 
 pub overflow_sub-entry : goal.overflow_sub-entry
-overflow_sub-entry c = let s = c in (laid_place s.args.tasks s.args.task.0 s.requires (long (goal.at.overflow_sub-entry c).Start)).0
+overflow_sub-entry c = (laid_place c.args.tasks c.args.task.0 c.requires (long (goal.at.overflow_sub-entry c).Start)).0
 
 pub bounds-table-i : goal.bounds-table-i
-bounds-table-i c = let s = c in omega (arith, laid_place s.args.tasks s.args.task.0 s.requires (long (goal.at.bounds-table-i c).Start))
+bounds-table-i c = omega (arith, laid_place c.args.tasks c.args.task.0 c.requires (long (goal.at.bounds-table-i c).Start))
 
 pub first_level-level-requires : goal.first_level-level-requires
-first_level-level-requires c = let s = c in laid_copied s.args.tasks s.args.task.0 s.requires (long (goal.at.first_level-level-requires c).Start)
+first_level-level-requires c = laid_copied c.args.tasks c.args.task.0 c.requires (long (goal.at.first_level-level-requires c).Start)
 
 pub overflow_sub-result : goal.overflow_sub-result
-overflow_sub-result c = let a = c.args in omega (arith, first (goal.at.overflow_sub-result c).After-struct_known-2-1, first_low (table_of a.t1.table) a.task.0)
+overflow_sub-result c = let a = c.args in omega (arith, first (goal.at.overflow_sub-result c).After-first_level-level, first_low (table_of a.tasks.table) a.task.0)
 
 pub returns : goal.returns
-returns c = (ap (λ (l : ℕ). l - 1) (first (goal.at.returns c).After-struct_known-2-1), search rules)
+returns c = (ap (λ (l : ℕ). l - 1) (first (goal.at.returns c).After-first_level-level), search rules)

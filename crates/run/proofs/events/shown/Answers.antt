@@ -1,5 +1,4 @@
 use mathlib.Core.Path.{◌≡◌}
-use borrow.Author.Rules.{rules}
 use lib.ListN.{length}
 use Rattle.rules.specs.State.{waiting}
 use Rattle.kernel.specs.Block.{view_of}

@@ -1,5 +1,5 @@
 use mathlib.Core.Path.{◌≡◌}
-use Prim.Native.Nat.{◌+◌, ◌-◌, ◌≤◌}
+use Prim.Native.Nat.{◌≤◌}
 use native.Mathlib.Omega.{arith}
 use borrow.Author.Rules.{rules}
 use lib.ListN.{length}
@@ -8,7 +8,7 @@ use Rattle.laws.proofs.Bools.{le_both}
 use Rattle.rules.specs.Table.{most}
 use Rattle.table.specs.Stored.{table_of}
 use Rattle.table.proofs.Tests.{table_length, few_passed}
-use Rattle.run.proofs.Planning.{Planning, planning_first, planning_next, planning_end, planning_room, planning_most}
+use Rattle.run.proofs.Planning.{planning_first, planning_next, planning_end, planning_room, planning_most}
 use Rattle.run.proofs.plans.plan_lines.Goals as goal
 use Rattle.run.proofs.plans.plan_lines.Goals.{Start}
 

@@ -1,14 +1,7 @@
 use mathlib.Core.Path.{◌≡◌}
-use Prim.Native.Nat.{◌+◌, ◌-◌, ◌≤◌}
-use native.Mathlib.Omega.{arith}
-use borrow.Author.Rules.{rules}
-use lib.ListN.{length}
-use Rattle.laws.proofs.Arrays.{long_map}
-use Rattle.laws.proofs.Bools.{le_both}
-use Rattle.rules.specs.Table.{most}
+use Prim.Native.Nat.{◌+◌, ◌-◌}
 use Rattle.table.specs.Stored.{table_of}
-use Rattle.table.proofs.Tests.{table_length, few_passed}
-use Rattle.run.proofs.Planning.{Planning, planning_first, planning_next, planning_end, planning_room, planning_most}
+use Rattle.run.proofs.Planning.{Planning}
 use Rattle.run.proofs.plans.plan_lines.Given as goal
 
 abbrev pub invariant-loop-k : goal.invariant-loop-k

@@ -19,27 +19,27 @@ long : (c : Start) → length c.args.tasks.table.tasks ≡ most
 long c = search (rules, long_map)
 
 pub overflow_sub-entry : goal.overflow_sub-entry
-overflow_sub-entry c = let s = c in omega (arith, laid_place s.args.tasks s.args.task.0 s.requires.0 (long (goal.at.overflow_sub-entry c).Start))
+overflow_sub-entry c = omega (arith, laid_place c.args.tasks c.args.task.0 c.requires.0 (long (goal.at.overflow_sub-entry c).Start))
 
 pub bounds-table-i : goal.bounds-table-i
-bounds-table-i c = let s = c in omega (arith, laid_place s.args.tasks s.args.task.0 s.requires.0 (long (goal.at.bounds-table-i c).Start))
+bounds-table-i c = omega (arith, laid_place c.args.tasks c.args.task.0 c.requires.0 (long (goal.at.bounds-table-i c).Start))
 
 pub first_level-level-requires : goal.first_level-level-requires
-first_level-level-requires c = let s = c in laid_copied s.args.tasks s.args.task.0 s.requires.0 (long (goal.at.first_level-level-requires c).Start)
+first_level-level-requires c = laid_copied c.args.tasks c.args.task.0 c.requires.0 (long (goal.at.first_level-level-requires c).Start)
 
 pub plan_of-plan-requires : goal.plan_of-plan-requires
-plan_of-plan-requires c = let s = c in laid_copied s.args.tasks s.args.task.0 s.requires.0 (long (goal.at.plan_of-plan-requires c).Start)
+plan_of-plan-requires c = laid_copied c.args.tasks c.args.task.0 c.requires.0 (long (goal.at.plan_of-plan-requires c).Start)
 
 pub plan_line-requires : goal.plan_line-requires
-plan_line-requires c = let s = c in let a = s.args in
-    let few = laid_few a.t1 a.task.0 s.requires.0 (long (goal.at.plan_line-requires c).Start) _ (c.plan_of-plan.ensures (table_of a.t1.table) s.requires.0.laid.copy (table_length a.t1.table (long (goal.at.plan_line-requires c).Start))) in
-    (few, omega (arith, few, s.requires.1))
+plan_line-requires c = let a = c.args in
+    let few = laid_few a.tasks a.task.0 c.requires.0 (long (goal.at.plan_line-requires c).Start) _ (c.plan_of-plan.ensures (table_of a.tasks.table) c.requires.0.laid.copy (table_length a.tasks.table (long (goal.at.plan_line-requires c).Start))) in
+    (few, omega (arith, few, c.requires.1))
 
 pub returns : goal.returns
-returns c = let s = c in let a = s.args in
-    let plan = c.plan_of-plan.ensures (table_of a.t1.table) s.requires.0.laid.copy (table_length a.t1.table (long (goal.at.returns c).Start)) in
-    let level = c.first_level-level.ensures (table_of a.t1.table) s.requires.0.laid.copy (table_length a.t1.table (long (goal.at.returns c).Start)) ∙ laid_first a.t1 a.task.0 s.requires.0 (long (goal.at.returns c).Start) in
+returns c = let a = c.args in
+    let plan = c.plan_of-plan.ensures (table_of a.tasks.table) c.requires.0.laid.copy (table_length a.tasks.table (long (goal.at.returns c).Start)) in
+    let level = c.first_level-level.ensures (table_of a.tasks.table) c.requires.0.laid.copy (table_length a.tasks.table (long (goal.at.returns c).Start)) ∙ laid_first a.tasks a.task.0 c.requires.0 (long (goal.at.returns c).Start) in
     let put = c.plan_line.ensures in (
-      puts_as (ap₂ (λ (l : ℕ) (ps : List Point). plan_text (record { task = a.task.0; level = l; points = ps })) level (laid_points a.t1 a.task.0 s.requires.0 (long (goal.at.returns c).Start) _ plan)) put.0,
-      omega (arith, put.1, laid_few a.t1 a.task.0 s.requires.0 (long (goal.at.returns c).Start) _ plan),
+      puts_as (ap₂ (λ (l : ℕ) (ps : List Point). plan_text (record { task = a.task.0; level = l; points = ps })) level (laid_points a.tasks a.task.0 c.requires.0 (long (goal.at.returns c).Start) _ plan)) put.0,
+      omega (arith, put.1, laid_few a.tasks a.task.0 c.requires.0 (long (goal.at.returns c).Start) _ plan),
     )
