@@ -1,5 +1,4 @@
 use native.Mathlib.Omega.{arith}
-use borrow.Author.Rules.{rules}
 use Rattle.ready.proofs.Runners.{met_lower, met_higher}
 use Rattle.ready.proofs.meet.Goals as goal
 

@@ -1,4 +1,3 @@
-use borrow.Author.Rules.{rules}
 use Rattle.jobs.specs.Kept.{levels_at}
 use Rattle.ready.proofs.Runners.{waits_enters, runner_waits, enters_alone, enters_meets}
 use Rattle.ready.proofs.Ready.enter.Goals as goal
@@ -13,7 +12,7 @@ meet-requires c = let p = c.requires in (
 )
 
 pub returns-in-Nobody : goal.returns-in-Nobody
-returns-in-Nobody c = enters_alone _ _ c.in-Nobody.is
+returns-in-Nobody c = enters_alone (levels_at c.args.tasks c.args.jobs c.args.time) _ c.in-Nobody.is
 
 pub returns-in-One : goal.returns-in-One
 returns-in-One c = let a = c.args in

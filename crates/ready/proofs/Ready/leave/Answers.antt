@@ -1,5 +1,4 @@
 use native.Mathlib.Omega.{arith}
-use borrow.Author.Rules.{rules}
 use Rattle.ready.proofs.Runners.{leaves_nobody, leaves_level, leaves_front}
 use Rattle.ready.proofs.Ready.leave.Goals as goal
 

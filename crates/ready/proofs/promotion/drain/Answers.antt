@@ -1,8 +1,6 @@
-use Prim.Native.Nat.{◌-◌}
 use native.Mathlib.Omega.{arith}
 use borrow.Author.Rules.{rules}
-use Rattle.rules.specs.Table.{most}
-use Rattle.ready.proofs.Draining.{Draining, draining_starts, draining_ends, draining_all, draining_level, draining_turns}
+use Rattle.ready.proofs.Draining.{draining_starts, draining_ends, draining_all, draining_level, draining_turns}
 use Rattle.ready.proofs.promotion.drain.Goals as goal
 
 pub loop-moves-init : goal.loop-moves-init

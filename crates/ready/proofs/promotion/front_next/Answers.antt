@@ -1,4 +1,3 @@
-use borrow.Author.Rules.{rules}
 use Rattle.jobs.specs.Kept.{levels_at}
 use Rattle.ready.proofs.Fronts.{front_leaves, nobody_stays, one_goes}
 use Rattle.ready.proofs.promotion.front_next.Goals as goal

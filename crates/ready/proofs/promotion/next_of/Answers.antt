@@ -22,26 +22,32 @@ long c = search (rules, long_map)
 
 -- the level that the remaining time has
 level : (c : After-time_left-left) → let a = c.args in
-    level_of (table_of a.t1.table) (to_z w64 (of_z w64 c.time_left-left.result)) ≡ levels_at a.t1 a.jobs a.time a.task.0
+    level_of (table_of a.tasks.table) (to_z w64 (of_z w64 c.time_left-left.result)) ≡ levels_at a.tasks a.jobs a.time a.task.0
 level c = level_held _ _ _ _ c.requires.known _ c.time_left-left.ensures
 
 -- has_left tells of that level
 told : (c : After-has_left) → let a = c.args in
-    c.Has-left.result ≡ ltb (levels_at a.t1 a.jobs a.time a.task.0) a.level.0
-told c =
-    let a = c in
-    c.Has-left.ensures (table_of a.args.tasks.table) a.requires.known.copy a.requires.high ∙ ap (λ (n : ℕ). ltb n a.args.level.0) (level c)
+    level_of (table_of a.tasks.table) (to_z w64 (of_z w64 c.time_left-left.result)) ≡ levels_at a.tasks a.jobs a.time a.task.0
+    → c.has_left.result ≡ ltb (levels_at a.tasks a.jobs a.time a.task.0) a.level.0
+told c e =
+    c.has_left.ensures (table_of c.args.tasks.table) c.requires.known.copy c.requires.high ∙ ap (λ (n : ℕ). ltb n c.args.level.0) e
 
 pub returns-then-not-has_left : goal.returns-then-not-has_left
-returns-then-not-has_left c = let a = c.args in
-    not_left_stays a.level.0 (levels_at a.t1 a.jobs a.time a.task.0) (told (goal.at.returns-then-not-has_left c).After-has_left) (not-true _ c.if-not-has_left.true-raw)
+returns-then-not-has_left c =
+    let a = c.args in
+    let at = goal.at.returns-then-not-has_left c in
+    not_left_stays a.level.0 (levels_at a.tasks a.jobs a.time a.task.0) (told at.After-has_left (level at.After-time_left-left)) (search (rules, not-true))
 
 pub level_in-requires : goal.level_in-requires
-level_in-requires c = let a = c in
-    record { table = table_of a.args.tasks.table; copy_of = a.requires.known.copy; size = table_length a.args.tasks.table (long (goal.at.level_in-requires c).Start) }
+level_in-requires c = record {
+  table = table_of c.args.tasks.table;
+  copy_of = c.requires.known.copy;
+  size = table_length c.args.tasks.table (long (goal.at.level_in-requires c).Start);
+}
 
 pub returns : goal.returns
-returns c = let b = c in
-    let a = b in
-    left_goes _ _ (told (goal.at.returns c).After-has_left) c.level_in.result (not-false _ c.if-not-has_left.false-raw)
-    (c.level_in.ensures (table_of a.args.tasks.table) a.requires.known.copy (table_length a.args.tasks.table (long (goal.at.returns c).Start)) ∙ level (goal.at.returns c).After-time_left-left)
+returns c =
+    let at = goal.at.returns c in
+    let e = level at.After-time_left-left in
+    left_goes _ _ (told at.After-has_left e) c.level_in.result (search (rules, not-false))
+    (c.level_in.ensures (table_of c.args.tasks.table) c.requires.known.copy (table_length c.args.tasks.table (long at.Start)) ∙ e)

@@ -1,7 +1,5 @@
-use Prim.Native.Nat.{suc, ◌+◌, ◌-◌}
+use Prim.Native.Nat.{◌+◌}
 use native.Mathlib.Omega.{arith}
-use borrow.Author.Rules.{rules}
-use Rattle.rules.specs.Table.{most}
 use Rattle.ready.proofs.Promoting.{Promoting, promoting_starts, promoting_ends, promoting_asks, promoting_stops, promoting_level, promoting_drains, promoting_turns}
 use Rattle.ready.proofs.promotion.promote.Goals as goal
 use Rattle.ready.proofs.promotion.promote.Goals.{After-drain-drained}

@@ -1,8 +1,6 @@
-use Prim.Native.Nat.{suc, ◌+◌, ◌-◌}
-use native.Mathlib.Omega.{arith}
-use borrow.Author.Rules.{rules}
+use Prim.Native.Nat.{suc, ◌-◌}
 use Rattle.rules.specs.Table.{most}
-use Rattle.ready.proofs.Promoting.{Promoting, promoting_starts, promoting_ends, promoting_asks, promoting_stops, promoting_level, promoting_drains, promoting_turns}
+use Rattle.ready.proofs.Promoting.{Promoting}
 use Rattle.ready.proofs.promotion.promote.Given as goal
 
 abbrev pub invariant-loop-from : goal.invariant-loop-from
