@@ -1,11 +1,7 @@
 use mathlib.Core.Path.{◌≡◌}
 use Prim.Native.Nat.{ℕ, ◌+◌, ◌-◌, ◌≤◌, ◌<◌}
-use native.Mathlib.Omega.{arith}
-use borrow.Author.Count.{below_more}
-use borrow.Author.Rules.{rules}
 use Rattle.lists.specs.Marks.{seen_at}
 use Rattle.jobs.specs.Kept.{job_at}
-use Rattle.laws.proofs.Bools.{flags_same, flags_differ}
 use Rattle.queue.proofs.active_as.Given as goal
 
 abbrev pub invariant-loop-k : goal.invariant-loop-k

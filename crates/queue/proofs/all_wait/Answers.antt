@@ -1,8 +1,6 @@
-use Prim.Native.Nat.{◌-◌, ◌≤◌}
 use native.Mathlib.Omega.{arith}
 use borrow.Author.Count.{below_more}
 use borrow.Author.Rules.{rules}
-use Rattle.queue.specs.Row.{AllWait}
 use Rattle.laws.proofs.Bools.{told_true, told_false}
 use Rattle.queue.proofs.all_wait.Goals as goal
 

@@ -1,5 +1,5 @@
 use mathlib.Core.Path.{◌≡◌, refl}
-use Prim.Native.Nat.{suc, ◌-◌, ◌≤◌}
+use Prim.Native.Nat.{suc}
 use native.Mathlib.Omega.{arith}
 use borrow.Author.Rules.{rules}
 use Rattle.lists.specs.Marks.{marked}

@@ -1,10 +1,7 @@
-use mathlib.Core.Path.{◌≡◌, refl}
-use Prim.Native.Nat.{suc, ◌-◌, ◌≤◌}
-use native.Mathlib.Omega.{arith}
-use borrow.Author.Rules.{rules}
+use mathlib.Core.Path.{◌≡◌}
+use Prim.Native.Nat.{◌-◌, ◌≤◌}
 use Rattle.lists.specs.Marks.{marked}
 use Rattle.queue.specs.Row.{row_tasks}
-use Rattle.queue.proofs.Rows.{marked_next}
 use Rattle.queue.proofs.marks.Given as goal
 
 abbrev pub invariant-loop-i : goal.invariant-loop-i
