@@ -1,4 +1,3 @@
-use borrow.Author.Rules.{rules}
 use Rattle.whole.proofs.is_dated.Goals as goal
 
 pub returns-in-At : goal.returns-in-At

@@ -23,17 +23,16 @@ tasks-told c = told_true _ c.tasks_whole.result c.if-not-tasks_whole.false-raw c
 held : (c : After-holds_lists) → Decides c.holds_lists.result (Holds c.args.ready.lists)
 held c = subst (λ (s : Stored). Decides c.holds_lists.result (Holds (lists_of s))) c.stored.ensures c.holds_lists.ensures
 
-tested : (c : Else-not-holds_lists) → let a = c.args in Tested a.tasks a.jobs a.ready a.clock
-tested c =
-    let dated = c in
+tested : (c : Else-not-holds_lists) → let a = c.args in TasksWhole a.tasks → Decides c.holds_lists.result (Holds a.ready.lists) → Tested a.tasks a.jobs a.ready a.clock
+tested c t h =
     record {
       datable =
           record {
-            tasks_whole = tasks-told dated;
-            jobs_whole = told_true _ dated.jobs_whole.result c.if-not-jobs_whole.false-raw dated.jobs_whole.ensures;
-            ticks = omega (arith, dated.if-clock-gt-LAST_TICK.false);
+            tasks_whole = t;
+            jobs_whole = told_true _ c.jobs_whole.result c.if-not-jobs_whole.false-raw c.jobs_whole.ensures;
+            ticks = omega (arith, c.if-clock-gt-LAST_TICK.false);
           };
-      links = told_true _ c.holds_lists.result c.if-not-holds_lists.false-raw (held c);
+      links = told_true _ c.holds_lists.result c.if-not-holds_lists.false-raw h;
     }
 
 pub returns-then-not-tasks_whole : goal.returns-then-not-tasks_whole
@@ -49,7 +48,8 @@ pub returns-then-not-holds_lists : goal.returns-then-not-holds_lists
 returns-then-not-holds_lists c = λ w. told_false _ c.holds_lists.result c.if-not-holds_lists.true-raw (held (goal.at.returns-then-not-holds_lists c).After-holds_lists) w.links
 
 pub queue_whole-requires : goal.queue_whole-requires
-queue_whole-requires c = tested (goal.at.queue_whole-requires c).Else-not-holds_lists
+queue_whole-requires c =
+    tested (goal.at.queue_whole-requires c).Else-not-holds_lists (tasks-told (goal.at.queue_whole-requires c).Else-not-tasks_whole) (held (goal.at.queue_whole-requires c).After-holds_lists)
 
 pub returns : goal.returns
 returns c = c.queue_whole.ensures

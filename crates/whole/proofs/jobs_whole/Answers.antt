@@ -1,6 +1,4 @@
 use mathlib.Core.Path.{◌≡◌, sym, ◌∙◌}
-use mathlib.Core.Bool.{true}
-use Prim.Native.Nat.{ℕ, ◌+◌, ◌-◌, ◌≤◌, ◌<◌}
 use native.Mathlib.Omega.{arith}
 use borrow.Author.Count.{below_more}
 use borrow.Author.Rules.{rules}
@@ -9,8 +7,6 @@ use lib.ListN.{length}
 use Rattle.laws.proofs.Arrays.{long_map}
 use Rattle.laws.proofs.Bools.{true_false}
 use Rattle.rules.specs.Table.{most}
-use Rattle.jobs.specs.Kept.{last_in, job_at}
-use Rattle.whole.specs.Parts.{dated_by}
 use Rattle.whole.proofs.Dates.{dated_whole, whole_dated}
 use Rattle.whole.proofs.jobs_whole.Goals as goal
 use Rattle.whole.proofs.jobs_whole.Goals.{Start}

@@ -1,17 +1,8 @@
-use mathlib.Core.Path.{◌≡◌, sym, ◌∙◌}
+use mathlib.Core.Path.{◌≡◌}
 use mathlib.Core.Bool.{true}
 use Prim.Native.Nat.{ℕ, ◌+◌, ◌-◌, ◌≤◌, ◌<◌}
-use native.Mathlib.Omega.{arith}
-use borrow.Author.Count.{below_more}
-use borrow.Author.Rules.{rules}
-use borrow.Author.Tests.{not-true, not-false}
-use lib.ListN.{length}
-use Rattle.laws.proofs.Arrays.{long_map}
-use Rattle.laws.proofs.Bools.{true_false}
-use Rattle.rules.specs.Table.{most}
 use Rattle.jobs.specs.Kept.{last_in, job_at}
 use Rattle.whole.specs.Parts.{dated_by}
-use Rattle.whole.proofs.Dates.{dated_whole, whole_dated}
 use Rattle.whole.proofs.jobs_whole.Given as goal
 
 abbrev pub invariant-loop-k : goal.invariant-loop-k

@@ -20,37 +20,36 @@ use Rattle.whole.proofs.queue_whole.Goals.{After-list_all-end, Start}
 long : (c : Start) → length c.args.tasks.table.tasks ≡ most
 long c = search (rules, long_map)
 
-listed : (c : After-list_all-end) → Puts (replicate (2 * most) 0) 0 (listing_bytes (list_at c.args.ready.lists)) c.list_all-end.result c.list_all-end.new.1.0
+listed : (c : After-list_all-end) → Puts (replicate (2 * most) 0) 0 (listing_bytes (list_at c.args.ready.lists)) c.list_all-end.result c.list_all-end.new.buffer
 listed c = c.list_all-end.ensures _ (lists_held c.requires.links.stores)
 
-read : (c : After-list_all-end) → Read (list_at c.args.ready.lists) c.list_all-end.new.1.0 (c.list_all-end.result / 2)
+read : (c : After-list_all-end) → Read (list_at c.args.ready.lists) c.list_all-end.new.buffer (c.list_all-end.result / 2)
 read c =
     let stored = lists_held c.requires.links.stores in
     listing_read stored _ _ _ (omega (arith, listing_room stored, length-replicate {A = ℕ} (2 * most) 0)) (listed c)
 
 pub list_all-end-requires : goal.list_all-end-requires
-list_all-end-requires c = let h = c.requires.links in record { lists = h.lists-1; stores = h.stores; room = listing_room h.stores }
+list_all-end-requires c = let h = c.requires.links in record { lists = h.lists; stores = h.stores; room = listing_room h.stores }
 
 pub returns-then-end-ne0 : goal.returns-then-end-ne0
 returns-then-end-ne0 c = λ q.
-    let a = c in
-    let none = (whole_none a.requires (ap who_in c.in-Nobody.is) (long (goal.at.returns-then-end-ne0 c).Start) q).1 in
+    let none = (whole_none c.requires (ap who_in c.in-Nobody.is) (long (goal.at.returns-then-end-ne0 c).Start) q).1 in
     omega (arith, listed_none _ (listed (goal.at.returns-then-end-ne0 c).After-list_all-end) none)
 
 pub active_as-requires : goal.active_as-requires
-active_as-requires c = let a = c in few_passed a.args.tasks.table (long (goal.at.active_as-requires c).Start) a.requires.datable.tasks_whole.table
+active_as-requires c = few_passed c.args.tasks.table (long (goal.at.active_as-requires c).Start) c.requires.datable.tasks_whole.table
 
 pub runs_whole-requires : goal.runs_whole-requires
 runs_whole-requires c = (c.requires.datable, (read (goal.at.runs_whole-requires c).After-list_all-end).few)
 
 pub returns-else-end-ne0 : goal.returns-else-end-ne0
-returns-else-end-ne0 c = let a = c in
+returns-else-end-ne0 c =
     let run = ap who_in c.in-Nobody.is in
     let none = none_listed _ (listed (goal.at.returns-else-end-ne0 c).After-list_all-end) (omega arith) in
-    decides_same _ _ c.active_as.result (none_whole a.requires run none (long (goal.at.returns-else-end-ne0 c).Start)) (λ q. (whole_none a.requires run (long (goal.at.returns-else-end-ne0 c).Start) q).0) c.active_as.ensures
+    decides_same _ _ c.active_as.result (none_whole c.requires run none (long (goal.at.returns-else-end-ne0 c).Start)) (λ q. (whole_none c.requires run (long (goal.at.returns-else-end-ne0 c).Start) q).0) c.active_as.ensures
 
 pub returns-in-One : goal.returns-in-One
-returns-in-One c = let a = c in
+returns-in-One c =
     let run = ap who_in c.in-One.is in
     let r = read (goal.at.returns-in-One c).After-list_all-end in
-    decides_same _ _ c.runs_whole.result (runs_whole a.requires run r (long (goal.at.returns-in-One c).Start)) (whole_runs a.requires run r (long (goal.at.returns-in-One c).Start)) c.runs_whole.ensures
+    decides_same _ _ c.runs_whole.result (runs_whole c.requires run r (long (goal.at.returns-in-One c).Start)) (whole_runs c.requires run r (long (goal.at.returns-in-One c).Start)) c.runs_whole.ensures
