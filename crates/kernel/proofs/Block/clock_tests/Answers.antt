@@ -1,4 +1,3 @@
-use borrow.Author.Rules.{rules}
 use Rattle.kernel.proofs.Testing.{clock_answered}
 use Rattle.kernel.proofs.Block.clock_tests.Goals as goal
 

@@ -1,5 +1,4 @@
 use mathlib.Core.Path.{refl}
-use borrow.Author.Rules.{rules}
 use Rattle.laws.proofs.Bools.{told_true}
 use Rattle.kernel.proofs.Fifteen.{is_whole, not_whole}
 use Rattle.kernel.proofs.Block.listing.Goals as goal

@@ -1,6 +1,5 @@
 use mathlib.Core.Path.{◌≡◌}
 use native.Mathlib.Omega.{arith}
-use borrow.Author.Rules.{rules}
 use lib.ListN.{length}
 use Rattle.rules.specs.State.{waiting}
 use Rattle.rules.proofs.Listings.{bytes_twice}

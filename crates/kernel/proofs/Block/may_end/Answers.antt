@@ -13,17 +13,17 @@ use Rattle.kernel.proofs.Block.may_end.Goals.{Else-not-known, Start}
 long : (c : Start) → length c.args.self.tasks.table.tasks ≡ most
 long c = search (rules, long_map)
 
-task : (c : Else-not-known) → let a = c.args in is_task (view_of a.self).table a.task.0 ≡ true
-task c = let s = c in asked_task s.args.self (long s) s.args.task.0 c.in_table-known.ensures c.if-not-known.false-raw
+task : (c : Else-not-known) → length c.args.self.tasks.table.tasks ≡ most → is_task (view_of c.args.self).table c.args.task.0 ≡ true
+task c l = asked_task c.args.self l c.args.task.0 c.in_table-known.ensures c.if-not-known.false-raw
 
 pub returns-then-not-known : goal.returns-then-not-known
-returns-then-not-known c = let s = c in let a = s.args in
+returns-then-not-known c = let a = c.args in
     no_such_task a.self (long (goal.at.returns-then-not-known c).Start) a.task.0 c.in_table-known.ensures a.time _ c.if-not-known.true-raw
 
 pub returns-then-not-runs : goal.returns-then-not-runs
 returns-then-not-runs c = let a = c.args in
-    not_running a.self a.time a.task.0 (task (goal.at.returns-then-not-runs c).Else-not-known) (sym c.is_running-runs.ensures ∙ not-true _ c.if-not-runs.true-raw)
+    not_running a.self a.time a.task.0 (task (goal.at.returns-then-not-runs c).Else-not-known (long (goal.at.returns-then-not-runs c).Start)) (sym c.is_running-runs.ensures ∙ not-true _ c.if-not-runs.true-raw)
 
 pub returns-else-not-runs : goal.returns-else-not-runs
 returns-else-not-runs c = let a = c.args in
-    end_allowed a.self a.time a.task.0 (task (goal.at.returns-else-not-runs c).Else-not-known) (sym c.is_running-runs.ensures ∙ not-false _ c.if-not-runs.false-raw)
+    end_allowed a.self a.time a.task.0 (task (goal.at.returns-else-not-runs c).Else-not-known (long (goal.at.returns-else-not-runs c).Start)) (sym c.is_running-runs.ensures ∙ not-false _ c.if-not-runs.false-raw)

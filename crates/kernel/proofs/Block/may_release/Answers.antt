@@ -13,35 +13,35 @@ use Rattle.kernel.proofs.Block.may_release.Goals.{Else-not-in_table, Start}
 long : (c : Start) → length c.args.self.tasks.table.tasks ≡ most
 long c = search (rules, long_map)
 
-dated : (c : Else-not-in_table) → let a = c.args in Dated a.t1.tasks.table a.t1.jobs a.task.0
-dated c = let s = c in asked_dated s.args.self (long s) s.args.task.0 c.in_table.ensures s.requires c.if-not-in_table.false-raw
+dated : (c : Else-not-in_table) → length c.args.self.tasks.table.tasks ≡ most → Dated c.args.self.tasks.table c.args.self.jobs c.args.task.0
+dated c l = asked_dated c.args.self l c.args.task.0 c.in_table.ensures c.requires c.if-not-in_table.false-raw
 
 pub returns-then-not-in_table : goal.returns-then-not-in_table
-returns-then-not-in_table c = let s = c in let a = s.args in
-    no_such_task a.t1 (long (goal.at.returns-then-not-in_table c).Start) a.task.0 c.in_table.ensures a.time _ c.if-not-in_table.true-raw
+returns-then-not-in_table c = let a = c.args in
+    no_such_task a.self (long (goal.at.returns-then-not-in_table c).Start) a.task.0 c.in_table.ensures a.time _ c.if-not-in_table.true-raw
 
 pub bounds-self-k : goal.bounds-self-k
-bounds-self-k c = omega (arith, dated_task (dated (goal.at.bounds-self-k c).Else-not-in_table) (long (goal.at.bounds-self-k c).Start))
+bounds-self-k c = omega (arith, dated_task (dated (goal.at.bounds-self-k c).Else-not-in_table (long (goal.at.bounds-self-k c).Start)) (long (goal.at.bounds-self-k c).Start))
 
 pub overflow_sub-entry : goal.overflow_sub-entry
-overflow_sub-entry c = omega (arith, dated_task (dated (goal.at.overflow_sub-entry c).Else-not-in_table) (long (goal.at.overflow_sub-entry c).Start))
+overflow_sub-entry c = omega (arith, dated_task (dated (goal.at.overflow_sub-entry c).Else-not-in_table (long (goal.at.overflow_sub-entry c).Start)) (long (goal.at.overflow_sub-entry c).Start))
 
 pub bounds-table-k : goal.bounds-table-k
-bounds-table-k c = omega (arith, dated_task (dated (goal.at.bounds-table-k c).Else-not-in_table) (long (goal.at.bounds-table-k c).Start))
+bounds-table-k c = omega (arith, dated_task (dated (goal.at.bounds-table-k c).Else-not-in_table (long (goal.at.bounds-table-k c).Start)) (long (goal.at.bounds-table-k c).Start))
 
 pub too_soon-soon-requires : goal.too_soon-soon-requires
-too_soon-soon-requires c = let d = dated (goal.at.too_soon-soon-requires c).Else-not-in_table in omega (arith, dated_time d, d.past)
+too_soon-soon-requires c = let d = dated (goal.at.too_soon-soon-requires c).Else-not-in_table (long (goal.at.too_soon-soon-requires c).Start) in omega (arith, dated_time d, d.past)
 
 pub returns-then-job : goal.returns-then-job
 returns-then-job c = let a = c.args in
-    task_active a.t1 a.time a.task.0 (dated (goal.at.returns-then-job c).Else-not-in_table) c.if-job.true
+    task_active a.self a.time a.task.0 (dated (goal.at.returns-then-job c).Else-not-in_table (long (goal.at.returns-then-job c).Start)) c.if-job.true
 
 pub returns-then-soon : goal.returns-then-soon
-returns-then-soon c = let s = c in let a = s.args in
-    released_soon a.t1 a.time a.task.0 (dated (goal.at.returns-then-soon c).Else-not-in_table) (long (goal.at.returns-then-soon c).Start) c.if-job.false
+returns-then-soon c = let a = c.args in
+    released_soon a.self a.time a.task.0 (dated (goal.at.returns-then-soon c).Else-not-in_table (long (goal.at.returns-then-soon c).Start)) (long (goal.at.returns-then-soon c).Start) c.if-job.false
     (sym c.too_soon-soon.ensures ∙ c.if-soon.true)
 
 pub returns-else-soon : goal.returns-else-soon
-returns-else-soon c = let s = c in let a = s.args in
-    release_allowed a.t1 a.time a.task.0 (dated (goal.at.returns-else-soon c).Else-not-in_table) (long (goal.at.returns-else-soon c).Start) c.if-job.false
+returns-else-soon c = let a = c.args in
+    release_allowed a.self a.time a.task.0 (dated (goal.at.returns-else-soon c).Else-not-in_table (long (goal.at.returns-else-soon c).Start)) (long (goal.at.returns-else-soon c).Start) c.if-job.false
     (sym c.too_soon-soon.ensures ∙ c.if-soon.false)

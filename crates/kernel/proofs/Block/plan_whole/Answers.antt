@@ -17,25 +17,25 @@ use Rattle.kernel.proofs.Block.plan_whole.Goals.{Else-not-in_table, Start}
 long : (c : Start) → length c.args.self.tasks.table.tasks ≡ most
 long c = search (rules, long_map)
 
-dated : (c : Else-not-in_table) → let a = c.args in Dated a.self.tasks.table a.self.jobs a.task.0
-dated c = let s = c in asked_dated s.args.self (long s) s.args.task.0 c.in_table.ensures s.requires c.if-not-in_table.false-raw
+dated : (c : Else-not-in_table) → length c.args.self.tasks.table.tasks ≡ most → Dated c.args.self.tasks.table c.args.self.jobs c.args.task.0
+dated c l = asked_dated c.args.self l c.args.task.0 c.in_table.ensures c.requires c.if-not-in_table.false-raw
 
 pub returns-then-not-in_table : goal.returns-then-not-in_table
-returns-then-not-in_table c = let s = c in let a = s.args in
+returns-then-not-in_table c = let a = c.args in
     plan_none (view_of a.self) a.task.0
     (asked_none a.self (long (goal.at.returns-then-not-in_table c).Start) a.task.0 c.in_table.ensures c.if-not-in_table.true-raw) c.no_plan.ensures
 
 pub overflow_sub-entry : goal.overflow_sub-entry
-overflow_sub-entry c = omega (arith, dated_task (dated (goal.at.overflow_sub-entry c).Else-not-in_table) (long (goal.at.overflow_sub-entry c).Start))
+overflow_sub-entry c = omega (arith, dated_task (dated (goal.at.overflow_sub-entry c).Else-not-in_table (long (goal.at.overflow_sub-entry c).Start)) (long (goal.at.overflow_sub-entry c).Start))
 
 pub bounds-table-k : goal.bounds-table-k
-bounds-table-k c = omega (arith, dated_task (dated (goal.at.bounds-table-k c).Else-not-in_table) (long (goal.at.bounds-table-k c).Start))
+bounds-table-k c = omega (arith, dated_task (dated (goal.at.bounds-table-k c).Else-not-in_table (long (goal.at.bounds-table-k c).Start)) (long (goal.at.bounds-table-k c).Start))
 
 pub plan_of-plan-requires : goal.plan_of-plan-requires
-plan_of-plan-requires c = let s = c in let table = s.args.self.tasks.table in
-    record { table = table_of table; copy_of = copy_viewed s.args.self s.requires (long (goal.at.plan_of-plan-requires c).Start); size = table_length table (long (goal.at.plan_of-plan-requires c).Start) }
+plan_of-plan-requires c = let table = c.args.self.tasks.table in
+    record { table = table_of table; copy_of = copy_viewed c.args.self c.requires (long (goal.at.plan_of-plan-requires c).Start); size = table_length table (long (goal.at.plan_of-plan-requires c).Start) }
 
 pub returns : goal.returns
-returns c = let s = c in let a = s.args in
-    plan_given a.self a.task.0 (long (goal.at.returns c).Start) (dated (goal.at.returns c).Else-not-in_table)
-    (c.plan_of-plan.ensures (table_of a.self.tasks.table) (copy_viewed a.self s.requires (long (goal.at.returns c).Start)) (table_length a.self.tasks.table (long (goal.at.returns c).Start)))
+returns c = let a = c.args in
+    plan_given a.self a.task.0 (long (goal.at.returns c).Start) (dated (goal.at.returns c).Else-not-in_table (long (goal.at.returns c).Start))
+    (c.plan_of-plan.ensures (table_of a.self.tasks.table) (copy_viewed a.self c.requires (long (goal.at.returns c).Start)) (table_length a.self.tasks.table (long (goal.at.returns c).Start)))

@@ -1,4 +1,3 @@
-use borrow.Author.Rules.{rules}
 use Rattle.laws.proofs.Bools.{told_true}
 use Rattle.kernel.proofs.Fifteen.{is_whole, not_whole}
 use Rattle.kernel.proofs.Block.release.Goals as goal

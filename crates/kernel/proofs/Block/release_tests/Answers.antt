@@ -1,5 +1,4 @@
 use mathlib.Core.Path.{refl, ◌∙◌}
-use borrow.Author.Rules.{rules}
 use Rattle.kernel.specs.Block.{view_of}
 use Rattle.rules.specs.Calls.{release_tests}
 use Rattle.kernel.proofs.Testing.{refused_early, goes_on}

@@ -1,4 +1,3 @@
-use borrow.Author.Rules.{rules}
 use Rattle.kernel.proofs.Commits.{goes, refuses}
 use Rattle.kernel.proofs.Block.release_whole.Goals as goal
 

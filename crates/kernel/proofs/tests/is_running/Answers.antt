@@ -1,4 +1,3 @@
-use borrow.Author.Rules.{rules}
 use Rattle.kernel.proofs.Testing.{runs_one}
 use Rattle.kernel.proofs.tests.is_running.Goals as goal
 

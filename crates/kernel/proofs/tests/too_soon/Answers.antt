@@ -1,5 +1,4 @@
 use native.Mathlib.Omega.{arith}
-use borrow.Author.Rules.{rules}
 use Rattle.kernel.proofs.Testing.{time_found, soon_at}
 use Rattle.kernel.proofs.tests.too_soon.Goals as goal
 
