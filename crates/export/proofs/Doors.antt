@@ -1,10 +1,8 @@
 -- What a door gives back, from what the functions behind it did. Assumes nothing.
 use mathlib.Core.Path.{◌≡◌, refl, sym, ap, ap₂, subst, ◌∙◌}
 use mathlib.Core.Bool.{Bool, false}
-use mathlib.Core.Logic.{⊎_elim}
 use mathlib.Core.List.{List, [], ◌∷◌}
 use Prim.Native.Nat.{ℕ, ◌+◌, ◌*◌}
-use native.Mathlib.Omega.{arith}
 use borrow.Author.Tests.{eq-eqb, ne_eqb}
 use lib.ListN.{length}
 use Rattle.laws.specs.Words.{Decides, digit, written}
@@ -29,7 +27,6 @@ use Rattle.kernel.specs.declared.Margin.{Margin}
 use Rattle.kernel.specs.declared.Answer.TheVariants.{Accepted, Refused}
 use Rattle.kernel.specs.declared.start.Started.{Started}
 use Rattle.kernel.specs.declared.asks.Listed.{Listed}
-use Rattle.kernel.specs.declared.asks.Listed.TheVariants as Listed
 use Rattle.kernel.specs.Block.{Whole, Sizes}
 use Rattle.kernel.specs.Answers.{refusal_in, margin_in}
 use Rattle.kernel.specs.Calls.{Gives}

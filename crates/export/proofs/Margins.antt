@@ -11,7 +11,6 @@ use mir.Facts.{to_z-of_z}
 use Rattle.laws.proofs.Bools.{clash}
 use Rattle.rules.specs.Calls.{Ticks}
 use Rattle.kernel.specs.declared.Margin.{Margin}
-use Rattle.kernel.specs.declared.Margin.TheVariants as Margin
 use Rattle.kernel.specs.Answers.{margin_in}
 use Rattle.export.specs.Door.{kind_of, ticks_of}
 

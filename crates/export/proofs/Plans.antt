@@ -1,7 +1,6 @@
 -- A plan in numbers: put into a lent array, point by point, and what the door for a plan gives back. Assumes nothing.
 use mathlib.Core.Path.{◌≡◌, refl, ap, ap₂, subst, ◌∙◌}
 use mathlib.Core.Bool.{Bool, true, false}
-use mathlib.Core.Logic.{⊎_elim}
 use mathlib.Core.List.{List, [], ◌∷◌, ◌++◌}
 use Prim.Native.Nat.{ℕ, ◌+◌, ◌*◌, ◌≤◌, ◌<◌}
 use native.Mathlib.Numerals.{add-one}
@@ -23,7 +22,6 @@ use Rattle.levels.specs.Copy.{point_in, points_in}
 use Rattle.levels.proofs.PlansHeld.{plan_fits, points_count, points_held}
 use Rattle.kernel.specs.declared.Block.{Block}
 use Rattle.kernel.specs.declared.asks.Asked.{Asked}
-use Rattle.kernel.specs.declared.asks.Asked.TheVariants as Asked
 use Rattle.kernel.specs.declared.asks.Planned.{Planned}
 use Rattle.kernel.specs.Block.{view_of, Whole}
 use Rattle.kernel.specs.Asks.{asked_in, PlansAs, GivesPlan}

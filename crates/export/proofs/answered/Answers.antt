@@ -1,4 +1,3 @@
-use borrow.Author.Rules.{rules}
 use Rattle.export.proofs.Doors.{answers_refused, answers_accepted}
 use Rattle.export.proofs.answered.Goals as goal
 

@@ -1,4 +1,3 @@
-use borrow.Author.Rules.{rules}
 use Rattle.export.proofs.Typed.{called_sizes}
 use Rattle.export.proofs.Doors.{tells_none, tells}
 use Rattle.export.proofs.meter_done.Goals as goal

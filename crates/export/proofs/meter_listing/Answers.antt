@@ -1,4 +1,3 @@
-use borrow.Author.Rules.{rules}
 use Rattle.export.proofs.Doors.{lists_none, lists_waiting, lists_refused}
 use Rattle.export.proofs.meter_listing.Goals as goal
 

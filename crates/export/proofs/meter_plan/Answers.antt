@@ -1,4 +1,3 @@
-use borrow.Author.Rules.{rules}
 use Rattle.export.proofs.Plans.{plan_few, plans_none, plans_given, plans_refused}
 use Rattle.export.proofs.meter_plan.Goals as goal
 

@@ -1,5 +1,4 @@
 use mathlib.Core.Path.{sym, ap}
-use borrow.Author.Rules.{rules}
 use Rattle.laws.specs.Words.{digit}
 use Rattle.export.proofs.Doors.{judges_none, judges}
 use Rattle.export.proofs.meter_whole.Goals as goal

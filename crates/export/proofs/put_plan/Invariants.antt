@@ -1,11 +1,5 @@
-use mathlib.Core.Path.{◌≡◌}
 use Prim.Native.Nat.{◌-◌, ◌≤◌}
-use native.Mathlib.Omega.{arith}
-use borrow.Author.Rules.{rules}
-use lib.ListN.{length}
-use Rattle.laws.proofs.Arrays.{long_map}
-use Rattle.rules.specs.Table.{most}
-use Rattle.export.proofs.Plans.{PointsLeft, points_start, points_turn, points_end}
+use Rattle.export.proofs.Plans.{PointsLeft}
 use Rattle.export.proofs.put_plan.Given as goal
 
 abbrev pub invariant-loop-i : goal.invariant-loop-i
