@@ -54,8 +54,7 @@ fn call_whole(block: Block, kind: u8, reading: u32, task: u8) -> Called
 }
 
 // The public call, with its whole-test; 0 where the bytes are no whole block.
-#[unsafe(no_mangle)]
-pub extern "C" fn bench_calls(block: &[u8], kind: u8, reading: u32, task: u8, times: u32) -> u64
+pub fn bench_calls(block: &[u8], kind: u8, reading: u32, task: u8, times: u32) -> u64
     ensures { Sums block.now (call_by kind reading task) times result }
 {
     if block.len() != BLOCK_BYTES {
@@ -79,8 +78,7 @@ pub extern "C" fn bench_calls(block: &[u8], kind: u8, reading: u32, task: u8, ti
 }
 
 // The inner form, without the whole-test.
-#[unsafe(no_mangle)]
-pub extern "C" fn bench_inner(block: &[u8], kind: u8, reading: u32, task: u8, times: u32) -> u64
+pub fn bench_inner(block: &[u8], kind: u8, reading: u32, task: u8, times: u32) -> u64
     ensures { Sums block.now (call_by kind reading task) times result }
 {
     if block.len() != BLOCK_BYTES {

@@ -2,47 +2,44 @@
 // its own (tools/cases.py); it is compared with the file stdout.
 #![tactic(auto)]
 
-use files::{Ended, Input};
+use files::{Ended, Input, Watched};
+use std::fs::File;
+use std::{env, io};
 
-fn main() {
-    let count = os::arg_count();
-    let mut i: usize = 1;
-    while i < count {
-        named(i);
-        i += 1;
+fn main(rt: HostRuntime) -> io::Result<()> {
+    for name in env::args(&rt)?.skip(1) {
+        named(&rt, name.as_str());
     }
+    Ok(())
 }
 
-// The case that argument i names.
-fn named(i: usize) {
-    let mut name = io::buffer();
-    let length = os::arg(i, &mut name);
-    if os::errno() != 0 {
-        os::fail(b"argument");
-        return;
+// The case of this name.
+fn named(rt: &HostRuntime, name: &str) {
+    let _ = println!(rt; "== {name}");
+    match File::open(rt, name) {
+        Ok(file) => case(rt, name, file),
+        Err(e) => files::fail(rt, name, e.raw_os_error()),
     }
-    io::write_all(1, b"== ");
-    io::write_all(1, &name[..length]);
-    io::write_all(1, b"\n");
-    let file = os::open_read(&name[..length]);
-    if file < 0 {
-        os::fail(&name[..length]);
-        return;
-    }
-    case(&name[..length], file);
-    libc::close(file);
 }
 
 // Its lines, from the file that holds its stream.
-fn case(name: &[u8], file: i32) {
+fn case(rt: &HostRuntime, name: &str, file: File) {
     let mut stream = run::input_room();
-    let input = files::read_all(file, &mut stream);
+    let mut from = Watched {
+        inner: file,
+        error: None,
+    };
+    let input = files::read_all(&mut from, &mut stream);
     let Input::Bytes(length) = input else {
-        os::fail(name);
+        files::fail(rt, name, from.error);
         return;
     };
-    let ended = files::print(&stream[..length], 1);
+    let mut to = Watched {
+        inner: rt.stdout(),
+        error: None,
+    };
+    let ended = files::print(&stream[..length], &mut to);
     if let Ended::NotWritten = ended {
-        os::fail(name);
+        files::fail(rt, name, to.error);
     }
 }

@@ -28,16 +28,14 @@ use stream::{Stream, stream_test, table_in};
 use text::below_zero;
 
 // The output's length; 0, and nothing is written, where `out` has less than 2 MiB.
-#[unsafe(no_mangle)]
-pub extern "C" fn meter_run(stream: &[u8], out: &mut [u8]) -> usize
+pub fn meter_run(stream: &[u8], out: &mut [u8]) -> usize
     ensures { Runs stream.now out.old result out.new }
 {
     run(stream, out)
 }
 
 // 0; or the number of a refusal, and 256 times the task or offset with it: 14, 12 and 13 of the stream, 1 to 4 of its table.
-#[unsafe(no_mangle)]
-pub extern "C" fn meter_start(stream: &[u8], reading: u32, block: &mut [u8]) -> usize
+pub fn meter_start(stream: &[u8], reading: u32, block: &mut [u8]) -> usize
     ensures { TellsStart stream.now reading block.old result block.new }
 {
     if block.len() != BLOCK_BYTES {
@@ -116,13 +114,7 @@ fn answered(called: Called, block: &mut [u8], answer: &mut [u64; 4]) -> u8
 }
 
 // 0, or the number of the refusal.
-#[unsafe(no_mangle)]
-pub extern "C" fn meter_release(
-    block: &mut [u8],
-    reading: u32,
-    task: u8,
-    answer: &mut [u64; 4],
-) -> u8
+pub fn meter_release(block: &mut [u8], reading: u32, task: u8, answer: &mut [u64; 4]) -> u8
     ensures { Tells (Release reading task) block.old answer.old result block.new answer.new }
 {
     if block.len() != BLOCK_BYTES {
@@ -132,8 +124,7 @@ pub extern "C" fn meter_release(
     answered(called, block, answer)
 }
 
-#[unsafe(no_mangle)]
-pub extern "C" fn meter_done(block: &mut [u8], reading: u32, task: u8, answer: &mut [u64; 4]) -> u8
+pub fn meter_done(block: &mut [u8], reading: u32, task: u8, answer: &mut [u64; 4]) -> u8
     ensures { Tells (Done reading task) block.old answer.old result block.new answer.new }
 {
     if block.len() != BLOCK_BYTES {
@@ -143,8 +134,7 @@ pub extern "C" fn meter_done(block: &mut [u8], reading: u32, task: u8, answer: &
     answered(called, block, answer)
 }
 
-#[unsafe(no_mangle)]
-pub extern "C" fn meter_clock(block: &mut [u8], reading: u32, answer: &mut [u64; 4]) -> u8
+pub fn meter_clock(block: &mut [u8], reading: u32, answer: &mut [u64; 4]) -> u8
     ensures { Tells (Clock reading) block.old answer.old result block.new answer.new }
 {
     if block.len() != BLOCK_BYTES {
@@ -155,8 +145,7 @@ pub extern "C" fn meter_clock(block: &mut [u8], reading: u32, answer: &mut [u64;
 }
 
 // The number waiting; or 256 times the number of the refusal.
-#[unsafe(no_mangle)]
-pub extern "C" fn meter_listing(block: &[u8], buffer: &mut [u8]) -> usize
+pub fn meter_listing(block: &[u8], buffer: &mut [u8]) -> usize
     ensures { TellsListing block.now buffer.old result buffer.new }
 {
     if block.len() != BLOCK_BYTES {
@@ -183,8 +172,7 @@ fn put_plan(plan: Plan, points: &mut [u32; 2 * MOST])
 }
 
 // The points of a task's plan: of each the ticks after the release, and the level. Their number; or 256 times the number of the refusal.
-#[unsafe(no_mangle)]
-pub extern "C" fn meter_plan(block: &[u8], task: u8, points: &mut [u32; 2 * MOST]) -> usize
+pub fn meter_plan(block: &[u8], task: u8, points: &mut [u32; 2 * MOST]) -> usize
     ensures { TellsPlan block.now task points.old result points.new }
 {
     if block.len() != BLOCK_BYTES {
@@ -201,8 +189,7 @@ pub extern "C" fn meter_plan(block: &[u8], task: u8, points: &mut [u32; 2 * MOST
 }
 
 // 1 where the block is whole, else 0.
-#[unsafe(no_mangle)]
-pub extern "C" fn meter_whole(block: &[u8]) -> u8
+pub fn meter_whole(block: &[u8]) -> u8
     ensures { TellsWhole block.now result }
 {
     if block.len() != BLOCK_BYTES {

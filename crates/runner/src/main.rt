@@ -1,27 +1,42 @@
 // The runner: a stream of records on standard input, its lines on standard output.
 //
-// A program has no exit status, so it says on descriptor 3 how it ended, `accepted` or `refused`, and nothing there where it could not
-// read or write.
+// It says on descriptor 3 how it ended, `accepted` or `refused`, and nothing there where it could not read or write.
 #![tactic(auto)]
 
-use files::{Ended, Input};
+use files::{Ended, Input, Watched};
+use std::fs::OpenOptions;
+use std::io::Write;
+use std::rt::Files;
 
-fn main() {
+fn main(rt: HostRuntime) {
     // a byte more than a stream may have, so that a longer one is seen
     let mut stream = run::input_room();
-    let input = files::read_all(0, &mut stream);
+    let mut from = Watched {
+        inner: rt.stdin(),
+        error: None,
+    };
+    let input = files::read_all(&mut from, &mut stream);
     let Input::Bytes(length) = input else {
-        os::fail(b"meter: standard input");
+        files::fail(&rt, "meter: standard input", from.error);
         return;
     };
-    let ended = files::print(&stream[..length], 1);
+    let mut to = Watched {
+        inner: rt.stdout(),
+        error: None,
+    };
+    let ended = files::print(&stream[..length], &mut to);
     match ended {
-        Ended::Accepted => {
-            io::write_all(3, b"accepted\n");
-        }
-        Ended::Refused => {
-            io::write_all(3, b"refused\n");
-        }
-        Ended::NotWritten => os::fail(b"meter: standard output"),
+        Ended::Accepted => say(&rt, b"accepted\n"),
+        Ended::Refused => say(&rt, b"refused\n"),
+        Ended::NotWritten => files::fail(&rt, "meter: standard output", to.error),
+    }
+}
+
+// A word to descriptor 3, where somebody listens.
+fn say(rt: &impl Files, word: &[u8]) {
+    let mut options = OpenOptions::new();
+    options.write(true);
+    if let Ok(mut listener) = options.open(rt, "/dev/fd/3") {
+        let _ = listener.write_all(word);
     }
 }
