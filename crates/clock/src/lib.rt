@@ -23,7 +23,7 @@ pub enum Moved {
 fn elapsed(reading: u32, last: u32) -> u32
     ensures { result ≡ elapsed_of reading last }
 {
-    std::num::wrapping_sub_u32(reading, last)
+    reading.wrapping_sub(last)
 }
 
 // The clock after a call that carries this reading, or why there is none: tests 5 and 6. The clock is that of a whole block.

@@ -4,4 +4,4 @@ use Rattle.clock.proofs.elapsed.Goals as goal
 
 pub returns : goal.returns
 unfolding elapsed_of
-returns c = omega (arith, c.wrapping_sub_u32.ensures)
+returns c = omega arith
