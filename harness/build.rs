@@ -1,4 +1,5 @@
-// Tells the linker where `rt staticlib` leaves the libraries: export, which the harness links, and bench, which the benchmark does.
+// Tells the linker where `./meter library` and `./meter bench` leave the libraries: export, which the harness links, and bench, which the
+// benchmark does.
 fn main() {
     let root = std::env::var("CARGO_MANIFEST_DIR").unwrap();
     let libraries = format!("{root}/../target/staticlib");

@@ -4,7 +4,7 @@
   tests/types.py        exit 0: each exchange is refused for its types; 1: one is not, with what the toolchain said; 2: wrong use
 
 An exchange is a must-fail edit that the compiler refuses before the prover sees it, so `rt must-fail` cannot take it. Each is made in a copy
-of the tree and of target/, where all else is proved already; the first error must be that of the types, at the line that was changed.
+of the tree; the first error must be that of the types, at the line that was changed.
 """
 import pathlib
 import shutil
@@ -29,11 +29,11 @@ def refused(house, crate, name, old, new, types):
     if text.count(old) != 1:
         return f"{crate}/{name} does not have it once: {old}"
     path.write_text(text.replace(old, new))
-    said = subprocess.run(["rt", "dev", crate], cwd=house, text=True, stdout=subprocess.PIPE, stderr=subprocess.STDOUT)
+    said = subprocess.run(["rt", "check"], cwd=house / "crates" / crate, text=True, stdout=subprocess.PIPE, stderr=subprocess.STDOUT)
     path.write_text(text)
     line = text[: text.index(old)].count("\n") + 1
     first = next((x for x in said.stdout.split("\n") if ": error" in x), "no error")
-    wanted = f"{crate}/{name}:{line}:", f"error[mismatched-types]: expected `{types[0]}`, found `{types[1]}`"
+    wanted = f"{name}:{line}:", f"error[mismatched-types]: expected `{types[0]}`, found `{types[1]}`"
     return "" if said.returncode and all(x in first for x in wanted) else f"{crate}/{name}, {new}: {first}"
 
 
@@ -44,9 +44,7 @@ def main():
     with tempfile.TemporaryDirectory() as folder:
         house = pathlib.Path(folder)
         shutil.copy(ROOT / "crates.txt", house)
-        shutil.copytree(ROOT / "crates", house / "crates")
-        if (ROOT / "target").is_dir():
-            shutil.copytree(ROOT / "target", house / "target", ignore=shutil.ignore_patterns("must-fail", "cargo", "staticlib"))
+        shutil.copytree(ROOT / "crates", house / "crates", ignore=shutil.ignore_patterns("out", "must-fail"))
         wrong = [why for exchange in EXCHANGES if (why := refused(house, *exchange))]
     for why in wrong:
         print(f"tests/types.py: not refused for its types: {why}")

@@ -24,13 +24,14 @@ TEXT = ROOT / "tests" / "uses.txt"
 SECONDS = 60
 
 # A toolchain that proves nothing, for what the door says while it waits. Each takes part in a house of its own, with three crates.
-CRATES = "laws:\nrules: laws\nrunner: rules io libc\nexport: rules\n"
+CRATES = "laws:\nrules: laws\nrunner: rules io\nexport_c staticlib: rules\n"
+PROVED = "".join(f"echo 'crate {name}: modules loaded=1 checked=0'; echo 'logic=proved functions=1'; " for name in ("laws", "rules", "runner"))
 TOOLCHAINS = {
-    "whole": """echo 'rt: laws proved (1 s)'; echo 'fn rules::f: proved'; echo 'rt: rules proved (2 s)'; echo 'rt: runner proved (1 s)'
-mkdir -p target/bin && cp "$RUNNER" target/bin/runner""",
-    "broken": """echo 'rt: laws proved (1 s)'; echo 'crates/rules/proofs/Steps.antt:3:1: error: it does not hold' >&2
-echo 'rt: rules NOT PROVED (exit 1, 2 s)'; echo 'rt: FAILED: rules'; exit 1""",
-    "slow": """echo 'rt: laws proved (1 s)'; mktemp -d >/dev/null; mkdir -p target/bin; echo half >target/bin/runner; chmod +x target/bin/runner
+    "whole": f"""echo 'fn rules::f: proved'; {PROVED}
+mkdir -p out && cp "$RUNNER" out/runner""",
+    "broken": """echo 'crate laws: modules loaded=1 checked=0'; echo 'logic=proved functions=0'
+echo './proofs/Steps.antt:3:1: error: it does not hold' >&2; echo 'crate rules: modules loaded=0 checked=1'; echo 'logic=not-proved'; exit 1""",
+    "slow": """echo 'crate laws: modules loaded=1 checked=0'; echo 'logic=proved functions=0'; mktemp -d >/dev/null; mkdir -p out; echo half >out/runner; chmod +x out/runner
 echo $$ >"$W/pids"; sleep 61 & echo $! >>"$W/pids"; sleep 62""",
 }
 
@@ -70,7 +71,7 @@ def build_houses(folder):
     """For each toolchain that proves nothing a copy of the front door, with no crate built."""
     for name, text in TOOLCHAINS.items():
         house = folder / name
-        for part in ("crates", "kit"):
+        for part in ("crates/runner", "kit"):
             (house / part).mkdir(parents=True)
         for part in ("tools", "docs"):
             shutil.copytree(ROOT / part, house / part)

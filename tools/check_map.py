@@ -27,7 +27,8 @@ DECLARES = re.compile(r"^\s*(?:(?:unfoldable|abbrev|pub|data|record) )*" + NAME 
 DEFINES = re.compile(r"^ *(?:unfoldable |abbrev )?pub (?:record |data )?" + NAME + " ")
 ITEM = re.compile(r'^ *(?:pub )?(?:extern "C" )?(?:fn|struct|enum|const) (\w+)', re.M)
 FUNCTION = re.compile(r'^ *(?:pub )?(?:extern "C" )?fn (\w+)\((?:[^{]|\n)*?-> [^{\n]+?(?: \{$|\n((?:.*\n)*?) *\{$)', re.M)
-
+# An impl of a trait: its methods have the trait's contracts.
+OF_TRAIT = re.compile(r"^impl[^\n]* for [^\n]*\{\n(?:.*\n)*?\}$", re.M)
 
 # The same said again: of a state, of a block's fields and of a block; of the rules and of the block.
 AGAIN = {"Whole", "Demand1", "Demands"}
@@ -95,7 +96,7 @@ def missing(marks):
 def silent():
     """The functions that return something and have no `ensures`."""
     return [f"{path.relative_to(ROOT)}: {m.group(1)} says nothing of what it returns" for path in sorted(ROOT.glob("crates/*/src/*.rt"))
-            for m in FUNCTION.finditer(path.read_text()) if "ensures" not in (m.group(2) or "")]
+            for m in FUNCTION.finditer(OF_TRAIT.sub("", path.read_text())) if "ensures" not in (m.group(2) or "")]
 
 
 def twice():

@@ -152,9 +152,9 @@ def differences():
     definitions = door.read(ROOT / DEFINITIONS)
     numbers = {each.name: str(each.number) for each in refusals()}
     yield from stale()
-    yield from unlike(f"{DEFINITIONS}: numberOf", numbers, equations("numberOf", definitions))
+    yield from unlike(f"{DEFINITIONS}: number_of", numbers, equations("number_of", definitions))
     values = {each.name: as_defined(each.given) for each in refusals()}
-    yield from unlike(f"{DEFINITIONS}: valueOf", values, equations("valueOf", definitions))
+    yield from unlike(f"{DEFINITIONS}: value_of", values, equations("value_of", definitions))
     if not (ROOT / CONSTANTS).is_file():
         yield f"{CONSTANTS}: missing"
         return

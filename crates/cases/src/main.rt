@@ -4,13 +4,17 @@
 
 use files::{Ended, Input, Watched};
 use std::fs::File;
-use std::{env, io};
+use std::env;
 
-fn main(rt: HostRuntime) -> io::Result<()> {
-    for name in env::args(&rt)?.skip(1) {
-        named(&rt, name.as_str());
+fn main(rt: HostRuntime) {
+    match env::args(&rt) {
+        Ok(args) => {
+            for name in args.skip(1) {
+                named(&rt, name.as_str());
+            }
+        }
+        Err(e) => files::fail(&rt, "argument", e.raw_os_error()),
     }
-    Ok(())
 }
 
 // The case of this name.
