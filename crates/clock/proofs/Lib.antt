@@ -1,2 +1,3 @@
 -- Laws of the clock's answer.
 pub mod Answers
+pub mod Linked

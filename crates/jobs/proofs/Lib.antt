@@ -1,2 +1,3 @@
 -- Laws of the jobs that are kept.
 pub mod Keeping
+pub mod Linked

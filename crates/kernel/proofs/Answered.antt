@@ -1,19 +1,14 @@
 -- "Every task table, clock reading and event is answered": whatever they are given, start and the calls have a result that their contracts
 -- allow, and any calls can be made one after the other. `∥ A ∥₁`: there is an A (Results and Starting say that there are no two results).
--- Each result is had by a run of the code, so the theorems ask for an environment γ of calls that has the code (`Linked`). A program whose
--- look-up finds the code has one (`program_linked`); that it finds it, the linker shows of each program. Assumes nothing else.
+-- Each result is had by a run of the code, in the environment of calls that Linked builds. Assumes nothing.
 use mathlib.Core.Path.{◌≡◌, refl, subst}
 use mathlib.Core.Logic.{∥∥₁_prop, ∥∥₁_elim, ∥∥₁_map}
-use mathlib.Core.Bool.{false}
 use mathlib.Core.List.{List, [], ◌∷◌}
 use Prim.Native.Nat.{ℕ, ◌<◌, ◌^◌}
-use mir.Syntax.{Symbol, w32}
+use mir.Syntax.{w32}
 use mir.Val.{Val, vint, vstruct, of_list}
 use base.Logic.{emp, id⊢}
-use prog.Routine.{Routine, Env}
-use prog.Wired.{Code, Wired}
-use prog.Linked.{Entry, tie, tie-Follows, Has-Wired}
-use prog.LinkedThreads.{HasT, no_threads}
+use prog.Routine.{Routine}
 use ghost.Model.{𝓤, H}
 use contract.Monad.{fact}
 use contract.BorrowModel.{logic₀}
@@ -61,6 +56,7 @@ use Rattle.kernel.specs.contracts.start.start as start
 use Rattle.kernel.proofs.start.start.Symbol as start-code
 use Rattle.kernel.proofs.start.start.Met as start-met
 use Rattle.kernel.proofs.Returned.{OfType, returned}
+use Rattle.kernel.proofs.Linked as linked
 
 -- ---- the arguments are plain data
 
@@ -96,65 +92,43 @@ task_answered P ρ met b (u, p) n k (l, m) =
     (block_made, (reading_made, (task_made, tt))) (p, ((refl, l), (owes TaskNo.the_type TaskNo'.the_laws task ((refl, m), tt), tt))) (P b n k)
     (λ r e. id⊢ 𝓤 (fact 𝓤 (P b n k r)))
 
--- in the environment γ, start and the calls do what their code does, and so does all that they call
-pub record Linked (γ : Env) : Type 0 where
-  pub release : Wired γ release-code.code
-  pub done : Wired γ done-code.code
-  pub clock : Wired γ clock-code.code
-  pub start : Wired γ start-code.code
+abbrev running : Running 𝓤 H model⁺
+running = within 𝓤 H model⁺ real⁺ linked.calls
 
--- the look-up finds each function by its name
-wired_in : (look : Symbol → Entry) (c : Code) → HasT look false c → Wired (tie look) c
-wired_in look c has = Has-Wired look (tie look) (tie-Follows look) c (no_threads look c has)
+-- ---- the calls
 
-pub program_linked : (look : Symbol → Entry) → HasT look false release-code.code → HasT look false done-code.code → HasT look false clock-code.code
-    → HasT look false start-code.code → Linked (tie look)
-program_linked look release done clock start =
-    record {
-      release = wired_in look release-code.code release;
-      done = wired_in look done-code.code done;
-      clock = wired_in look clock-code.code clock;
-      start = wired_in look start-code.code start;
-    }
+pub call_answered : (b : Block) → OfType Block.the_row b → (c : Call) → CallFits c → ∥ ((r : Called) × OfType Called.the_row r × Gives b c r) ∥₁
+call_answered b o (Release n k) f =
+    task_answered (λ (x : Block) (i j : ℕ). Gives x (Release i j)) (linked.calls release-code.name) (release-met.met 𝓤 logic₀ model⁺ running linked.release_wired) b o n k f
+call_answered b o (Done n k) f =
+    task_answered (λ (x : Block) (i j : ℕ). Gives x (Done i j)) (linked.calls done-code.name) (done-met.met 𝓤 logic₀ model⁺ running linked.done_wired) b o n k f
+call_answered b (u, p) (Clock n) l =
+    returned clock.ended (linked.calls clock-code.name) (clock.clauses logic₀ model⁺.mem real⁺.returns) (clock-met.met 𝓤 logic₀ model⁺ running linked.clock_wired)
+    ((tt, tt, tt, (b, (n, tt)), (u ∷ [], (vint w32 n ∷ [], tt))), tt) (id⊢ 𝓤 (emp 𝓤)) (id⊢ 𝓤 (emp 𝓤))
+    (block_made, (reading_made, tt)) (p, ((refl, l), tt)) (Gives b (Clock n)) (λ r e. id⊢ 𝓤 (fact 𝓤 (Gives b (Clock n) r)))
 
-module _ (γ : Env) (linked : Linked γ) where
-  abbrev running : Running 𝓤 H model⁺
-  running = within 𝓤 H model⁺ real⁺ γ
+-- ---- start
 
-  -- ---- the calls
+pub start_answered : (table : Table) → OfType Table.the_row table → (n : ℕ) → n < 2 ^ 32 → ∥ ((r : Started) × OfType Started.the_row r × Starts table n r) ∥₁
+start_answered table (u, p) n l =
+    returned start.ended (linked.calls start-code.name) (start.clauses logic₀ model⁺.mem real⁺.returns) (start-met.met 𝓤 logic₀ model⁺ running linked.start_wired)
+    ((tt, tt, tt, (table, (n, tt)), (u ∷ [], (vint w32 n ∷ [], tt))), tt) (id⊢ 𝓤 (emp 𝓤)) (id⊢ 𝓤 (emp 𝓤))
+    (makes Table.the_type Table'.the_plain logic₀, (reading_made, tt)) (p, ((refl, l), tt)) (Starts table n) (λ r e. id⊢ 𝓤 (fact 𝓤 (Starts table n r)))
 
-  pub call_answered : (b : Block) → OfType Block.the_row b → (c : Call) → CallFits c → ∥ ((r : Called) × OfType Called.the_row r × Gives b c r) ∥₁
-  call_answered b o (Release n k) f =
-      task_answered (λ (x : Block) (i j : ℕ). Gives x (Release i j)) (γ release-code.name) (release-met.met 𝓤 logic₀ model⁺ running linked.release) b o n k f
-  call_answered b o (Done n k) f =
-      task_answered (λ (x : Block) (i j : ℕ). Gives x (Done i j)) (γ done-code.name) (done-met.met 𝓤 logic₀ model⁺ running linked.done) b o n k f
-  call_answered b (u, p) (Clock n) l =
-      returned clock.ended (γ clock-code.name) (clock.clauses logic₀ model⁺.mem real⁺.returns) (clock-met.met 𝓤 logic₀ model⁺ running linked.clock)
-      ((tt, tt, tt, (b, (n, tt)), (u ∷ [], (vint w32 n ∷ [], tt))), tt) (id⊢ 𝓤 (emp 𝓤)) (id⊢ 𝓤 (emp 𝓤))
-      (block_made, (reading_made, tt)) (p, ((refl, l), tt)) (Gives b (Clock n)) (λ r e. id⊢ 𝓤 (fact 𝓤 (Gives b (Clock n) r)))
+-- ---- any calls, one after the other
 
-  -- ---- start
+leads_answered : (b : Block) → OfType Block.the_row b → (cs : List Call) → All CallFits cs
+    → ∥ ((es : List Event) × (last : Block) × Leads Gives said (λ (r : Called). r.block) b cs es last) ∥₁
+leads_answered b o [] f = ∣ ([], b, (refl, refl)) ∣₁
+leads_answered b o (c ∷ cs) (f, fs) =
+    ∥∥₁_elim (call_answered b o c f) ∥∥₁_prop
+    (λ (r, (v, p), g). ∥∥₁_map (leads_answered r.block (one_value Block.the_type r.block p.0.1.0 p.1.1.1.0) cs fs)
+    (λ (es, last, l). (record { call = c; answer = said r } ∷ es, last, (r, g, es, refl, l))))
 
-  pub start_answered : (table : Table) → OfType Table.the_row table → (n : ℕ) → n < 2 ^ 32 → ∥ ((r : Started) × OfType Started.the_row r × Starts table n r) ∥₁
-  start_answered table (u, p) n l =
-      returned start.ended (γ start-code.name) (start.clauses logic₀ model⁺.mem real⁺.returns) (start-met.met 𝓤 logic₀ model⁺ running linked.start)
-      ((tt, tt, tt, (table, (n, tt)), (u ∷ [], (vint w32 n ∷ [], tt))), tt) (id⊢ 𝓤 (emp 𝓤)) (id⊢ 𝓤 (emp 𝓤))
-      (makes Table.the_type Table'.the_plain logic₀, (reading_made, tt)) (p, ((refl, l), tt)) (Starts table n) (λ r e. id⊢ 𝓤 (fact 𝓤 (Starts table n r)))
-
-  -- ---- any calls, one after the other
-
-  leads_answered : (b : Block) → OfType Block.the_row b → (cs : List Call) → All CallFits cs
-      → ∥ ((es : List Event) × (last : Block) × Leads Gives said (λ (r : Called). r.block) b cs es last) ∥₁
-  leads_answered b o [] f = ∣ ([], b, (refl, refl)) ∣₁
-  leads_answered b o (c ∷ cs) (f, fs) =
-      ∥∥₁_elim (call_answered b o c f) ∥∥₁_prop
-      (λ (r, (v, p), g). ∥∥₁_map (leads_answered r.block (one_value Block.the_type r.block p.0.1.0 p.1.1.1.0) cs fs)
-      (λ (es, last, l). (record { call = c; answer = said r } ∷ es, last, (r, g, es, refl, l))))
-
-  -- every sound table, every reading of its start and every list of calls has a history
-  pub history_answered : (table : Table) → OfType Table.the_row table → verdict_of (table_of table) ≡ Passed → (n : ℕ) → n < 2 ^ 32 → (cs : List Call) → All CallFits cs
-      → ∥ ((es : List Event) × (b : Block) × History table n cs es b) ∥₁
-  history_answered table (u, p) sound n l cs f =
-      ∥∥₁_elim (start_answered table (u, p) n l) ∥∥₁_prop
-      (λ (r, (v, q), s). ∥∥₁_map (leads_answered r.block (one_value Block.the_type r.block q.0.1.0 q.1.1.1.0) cs f)
-      (λ (es, b, h). (es, b, record { places = p.1.1.1.0.1.0.1; started = r; starts = s; sound = sound; leads = h })))
+-- every sound table, every reading of its start and every list of calls has a history
+pub history_answered : (table : Table) → OfType Table.the_row table → verdict_of (table_of table) ≡ Passed → (n : ℕ) → n < 2 ^ 32 → (cs : List Call) → All CallFits cs
+    → ∥ ((es : List Event) × (b : Block) × History table n cs es b) ∥₁
+history_answered table (u, p) sound n l cs f =
+    ∥∥₁_elim (start_answered table (u, p) n l) ∥∥₁_prop
+    (λ (r, (v, q), s). ∥∥₁_map (leads_answered r.block (one_value Block.the_type r.block q.0.1.0 q.1.1.1.0) cs f)
+    (λ (es, b, h). (es, b, record { places = p.1.1.1.0.1.0.1; started = r; starts = s; sound = sound; leads = h })))

@@ -8,4 +8,5 @@ pub mod Asking
 pub mod Results
 pub mod Demands
 pub mod Returned
+pub mod Linked
 pub mod Answered

@@ -13,3 +13,4 @@ pub mod Apart
 pub mod Together
 pub mod Marks
 pub mod Results
+pub mod Linked

@@ -5,3 +5,4 @@ pub mod Fronts
 pub mod Draining
 pub mod Promoting
 pub mod Results
+pub mod Linked

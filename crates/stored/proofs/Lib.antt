@@ -2,3 +2,4 @@
 pub mod Seeing
 pub mod Deciding
 pub mod Results
+pub mod Linked

@@ -3,3 +3,4 @@ pub mod Dates
 pub mod Reading
 pub mod Queueing
 pub mod Wholeness
+pub mod Linked
