@@ -94,9 +94,9 @@ def missing(marks):
 
 
 def silent():
-    """The functions that return something and have no `ensures`."""
+    """The functions that return something and have no `ensures`; a program's main returns its exit status, of which none speaks."""
     return [f"{path.relative_to(ROOT)}: {m.group(1)} says nothing of what it returns" for path in sorted(ROOT.glob("crates/*/src/*.rt"))
-            for m in FUNCTION.finditer(OF_TRAIT.sub("", path.read_text())) if "ensures" not in (m.group(2) or "")]
+            for m in FUNCTION.finditer(OF_TRAIT.sub("", path.read_text())) if "ensures" not in (m.group(2) or "") and m.group(1) != "main"]
 
 
 def twice():

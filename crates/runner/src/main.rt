@@ -6,9 +6,16 @@
 use files::{Ended, Input, Watched};
 use std::fs::OpenOptions;
 use std::io::Write;
+use std::process::ExitCode;
 use std::rt::Files;
 
-fn main(rt: HostRuntime) {
+// The system's number of an error: nobody reads what is written any more.
+const NO_READER: i32 = 32;
+
+// The status that a shell gives to a program that ends of it.
+const BROKEN_PIPE: u8 = 141;
+
+fn main(rt: HostRuntime) -> ExitCode {
     // a byte more than a stream may have, so that a longer one is seen
     let mut stream = run::input_room();
     let mut from = Watched {
@@ -18,7 +25,7 @@ fn main(rt: HostRuntime) {
     let input = files::read_all(&mut from, &mut stream);
     let Input::Bytes(length) = input else {
         files::fail(&rt, "meter: standard input", from.error);
-        return;
+        return ExitCode::SUCCESS;
     };
     let mut to = Watched {
         inner: rt.stdout(),
@@ -28,8 +35,14 @@ fn main(rt: HostRuntime) {
     match ended {
         Ended::Accepted => say(&rt, b"accepted\n"),
         Ended::Refused => say(&rt, b"refused\n"),
-        Ended::NotWritten => files::fail(&rt, "meter: standard output", to.error),
+        Ended::NotWritten => {
+            if to.error == Some(NO_READER) {
+                return ExitCode::from(BROKEN_PIPE);
+            }
+            files::fail(&rt, "meter: standard output", to.error)
+        }
     }
+    ExitCode::SUCCESS
 }
 
 // A word to descriptor 3, where somebody listens.
