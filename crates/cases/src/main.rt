@@ -3,8 +3,8 @@
 #![tactic(auto)]
 
 use files::{Ended, Input, Watched};
-use std::fs::File;
 use std::env;
+use std::fs::File;
 
 fn main(rt: HostRuntime) {
     match env::args(&rt) {
