@@ -5,7 +5,7 @@
 
 A mark of the map is a text in `..` of one of these forms. The crate may stand in front, `laws/specs/Words`; without one it is rules.
   specs/Clock                         a file
-  specs/Clock.elapsedOf               a name that the file declares: a definition, a law, a data type, a record, a field, a constructor
+  specs/Clock.elapsed_of              a name that the file declares: a definition, a law, a data type, a record, a field, a constructor
   proofs/Cases#Elapsed 4294967290     a text that stands in the file
   clock/src/lib.advance               a function, a struct, an enum or a constant of a file of code
   must-fail/zero_moves                a must-fail edit

@@ -1,4 +1,4 @@
--- Two results that a contract allows are equal (of `call`: kernel/proofs/Results.gives-one). A progress is given back by value, so the
+-- Two results that a contract allows are equal (of `call`: kernel/proofs/Results.gives_one). A progress is given back by value, so the
 -- arrays of its block are as long as their types say: that is the premise `Sizes`. Assumes nothing.
 use mathlib.Core.Path.{◌≡◌, sym, ap, ◌∙◌}
 use mathlib.Core.Bool.{Bool, true, false}

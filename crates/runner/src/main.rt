@@ -4,10 +4,10 @@
 #![tactic(auto)]
 
 use files::{Ended, Input, Watched};
+use std::fs;
 use std::fs::OpenOptions;
 use std::io::Write;
 use std::process::ExitCode;
-use std::rt::Files;
 
 // The system's number of an error: nobody reads what is written any more.
 const NO_READER: i32 = 32;
@@ -45,10 +45,22 @@ fn main(rt: HostRuntime) -> ExitCode {
     ExitCode::SUCCESS
 }
 
-// A word to descriptor 3, where somebody listens.
-fn say(rt: &impl Files, word: &[u8]) {
+// A word to descriptor 3, where somebody listens: where it is open for writing.
+fn say(rt: &HostRuntime, word: &[u8]) {
+    let Ok(info) = fs::read_to_string(rt, "/proc/self/fdinfo/3") else {
+        return;
+    };
+    let Some((_, rest)) = info.as_str().split_once("flags:\t") else {
+        return;
+    };
+    let Some((flags, _)) = rest.split_once("\n") else {
+        return;
+    };
+    if !(flags.ends_with('1') || flags.ends_with('2')) {
+        return;
+    }
     let mut options = OpenOptions::new();
-    options.write(true);
+    options.read(true).append(true);
     if let Ok(mut listener) = options.open(rt, "/dev/fd/3") {
         let _ = listener.write_all(word);
     }
