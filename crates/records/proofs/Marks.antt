@@ -9,11 +9,13 @@ use lib.Dec.{eqb, leb}
 use lib.ListN.{length, get_or}
 use Rattle.laws.specs.Words.{pick}
 use Rattle.rules.specs.Records.{word, Found, Bad, found_by, record_at}
+use Rattle.rules.proofs.Streams.{read_within}
 use Rattle.records.specs.declared.Mark.{Mark}
 use Rattle.records.specs.declared.Mark.TheVariants as Mark
 use Rattle.records.specs.declared.Call.TheVariants as Call
 use Rattle.records.specs.declared.Record.TheVariants as Record
-use Rattle.records.specs.Read.{read_as, mark_in, size_in, says_in}
+use Rattle.records.specs.declared.Record as Stored
+use Rattle.records.specs.Read.{record_in, read_as, mark_in, size_in, says_in}
 
 -- ---- the two bytes, tested one after the other
 
@@ -93,3 +95,8 @@ module _ (s : List ℕ) (at : ℕ) (m : Mark) {size : ℕ} (n : size ≡ size_in
 
     pub says_clock : m ≡ Mark.Clock → read_as (Record.Event (Call.Clock reading)) size ≡ says_in s at m
     says_clock e = rw (n, e, p)
+
+-- ---- a record that was read has bytes, and they are all there
+
+pub lies_within : (s : List ℕ) (at : ℕ) (r : Stored.Record) (n : ℕ) → read_as r n ≡ record_at s at → (6 ≤ n) × (at + n ≤ length s)
+lies_within s at r n e = read_within s at (record_in r) n (sym e)

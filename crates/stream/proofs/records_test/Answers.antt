@@ -1,7 +1,7 @@
 use Rattle.std.proofs.Common.{sym, ◌∙◌, arith}
 use Rattle.laws.proofs.Bools.{true_false}
-use Rattle.rules.proofs.Streams.{read_within, tests_end, tests_bad}
-use Rattle.records.specs.Read.{record_in}
+use Rattle.rules.proofs.Streams.{tests_end, tests_bad}
+use Rattle.records.proofs.Marks.{lies_within}
 use Rattle.stream.proofs.Tests.{tests_none, turn_late, turn_task, turn_event}
 use Rattle.stream.proofs.records_test.Goals as goal
 use Rattle.stream.proofs.records_test.Goals.{then-not-task, else-not-task, else-begun-via-then-begun+else-task, else-begun-via-else-begun}
@@ -17,16 +17,15 @@ returns-then-task c =
     sym (turn_late c.args.stream.now c.loop-at.begun c.loop-at.at c.in-Read.record c.in-Read.size (sym c.in-Read.ensures) c.if-begun.true (sym c.if-task.ensures))
     ∙ c.loop-at.invariant.1
 
--- a record that was read has bytes, and they are all there
 pub overflow_add-at : goal.overflow_add-at
-overflow_add-at c = omega (arith, read_within c.args.stream.now c.loop-at.at (record_in c.in-Read.record) c.in-Read.size (sym c.in-Read.ensures))
+overflow_add-at c = omega (arith, lies_within _ _ _ _ c.in-Read.ensures)
 
 pub loop-at-smaller : goal.loop-at-smaller
-loop-at-smaller c = omega (arith, read_within c.args.stream.now c.loop-at.at (record_in c.in-Read.record) c.in-Read.size (sym c.in-Read.ensures))
+loop-at-smaller c = omega (arith, lies_within _ _ _ _ c.in-Read.ensures)
 
 pub loop-at-preserved : goal.loop-at-preserved
 loop-at-preserved c = (
-  (read_within c.args.stream.now c.loop-at.at (record_in c.in-Read.record) c.in-Read.size (sym c.in-Read.ensures)).1,
+  (lies_within _ _ _ _ c.in-Read.ensures).1,
   elim c.if-not-task.branch [
     | then-not-task w ↦
         rw w.begun-is

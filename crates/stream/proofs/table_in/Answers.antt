@@ -1,7 +1,7 @@
 use Rattle.std.proofs.Common.{sym, ap, ◌∙◌, arith, rules}
-use Rattle.rules.proofs.Streams.{read_within}
 use Rattle.records.specs.declared.Record.{Record}
-use Rattle.records.specs.Read.{call_in, record_in, read_as}
+use Rattle.records.specs.Read.{call_in, read_as}
+use Rattle.records.proofs.Marks.{lies_within}
 use Rattle.stream.proofs.Loading.{loaded_start, loaded_count, loaded_past, loaded_end, loaded_bad, loaded_event, loaded_task}
 use Rattle.stream.proofs.table_in.Goals as goal
 use Rattle.stream.proofs.table_in.Goals.{in-Task, in_default}
@@ -12,16 +12,15 @@ loop-at-init c = (search rules, loaded_start _)
 pub added-more-requires : goal.added-more-requires
 added-more-requires c = omega (arith, loaded_count _ _ _ c.loop-at.invariant.1)
 
--- a record that was read has bytes, and they are all there
 pub overflow_add-at : goal.overflow_add-at
-overflow_add-at c = omega (arith, read_within c.args.stream.now c.loop-at.at (record_in c.in-Read.record) c.in-Read.size (sym c.in-Read.ensures))
+overflow_add-at c = omega (arith, lies_within _ _ _ _ c.in-Read.ensures)
 
 pub loop-at-smaller : goal.loop-at-smaller
-loop-at-smaller c = omega (arith, read_within c.args.stream.now c.loop-at.at (record_in c.in-Read.record) c.in-Read.size (sym c.in-Read.ensures))
+loop-at-smaller c = omega (arith, lies_within _ _ _ _ c.in-Read.ensures)
 
 pub loop-at-preserved : goal.loop-at-preserved
 loop-at-preserved c = (
-  (read_within c.args.stream.now c.loop-at.at (record_in c.in-Read.record) c.in-Read.size (sym c.in-Read.ensures)).1,
+  (lies_within _ _ _ _ c.in-Read.ensures).1,
   elim c.match-record.branch [
     | in-Task w ↦
         rw w.table-is

@@ -1,20 +1,13 @@
 use mathlib.Core.Path.{◌≡◌, sym, ap, ◌∙◌}
-use mathlib.Core.List.{List}
-use Prim.Native.Nat.{ℕ, ◌+◌, ◌≤◌}
 use native.Mathlib.Omega.{arith}
-use lib.ListN.{length}
 use Rattle.rules.specs.Records.{record_at}
-use Rattle.rules.proofs.Streams.{read_within}
 use Rattle.table.specs.Stored.{task_of}
 use Rattle.records.specs.declared.Record.{Record}
-use Rattle.records.specs.Read.{call_in, record_in, read_as, found_in}
+use Rattle.records.specs.Read.{call_in, read_as, found_in}
+use Rattle.records.proofs.Marks.{lies_within}
 use Rattle.run.proofs.Along.{along_start, along_begins, along_room, along_past, along_end, along_bad, along_task, along_event}
 use Rattle.run.proofs.events.events.Goals as goal
 use Rattle.run.proofs.events.events.Goals.{in-Event, in_default}
-
--- a record that was read lies within the stream
-within : (bytes : List ℕ) (offset : ℕ) (what : Record) (size : ℕ) → read_as what size ≡ record_at bytes offset → (6 ≤ size) × (offset + size ≤ length bytes)
-within bytes offset what size here = read_within bytes offset (record_in what) size (sym here)
 
 pub loop-at-init : goal.loop-at-init
 loop-at-init c = along_start _ _ _ _ c.requires.0
@@ -24,10 +17,10 @@ event-after-requires c = let t = c in let l = t in let p = l.requires in
     (along_begins _ _ _ _ _ _ _ l.loop-at.invariant p.1, along_room _ _ _ _ _ _ _ l.loop-at.invariant p.1 t.loop-at-test.true p.2)
 
 pub overflow_add-at : goal.overflow_add-at
-overflow_add-at c = omega (arith, within _ _ _ _ c.in-Read.ensures)
+overflow_add-at c = omega (arith, lies_within _ _ _ _ c.in-Read.ensures)
 
 pub loop-at-smaller : goal.loop-at-smaller
-loop-at-smaller c = omega (arith, within _ _ _ _ c.in-Read.ensures)
+loop-at-smaller c = omega (arith, lies_within _ _ _ _ c.in-Read.ensures)
 
 pub loop-at-preserved : goal.loop-at-preserved
 loop-at-preserved c =
