@@ -11,10 +11,9 @@ const HALF_TURN: u32 = 1 << 31;
 // "may reach 2^40, no further"
 pub const LAST_TICK: u64 = 1 << 40;
 
-// The new time, or the test that fails: 5 or 6.
+// Why the clock may not move, the test that fails: 5 or 6.
 #[derive(Clone, Copy)]
-pub enum Moved {
-    To(u64),
+pub enum ClockRefusal {
     CounterWentBack,
     ClockFull,
 }
@@ -27,17 +26,17 @@ fn elapsed(reading: u32, last: u32) -> u32
 }
 
 // The clock after a call that carries this reading, or why there is none: tests 5 and 6. The clock is that of a whole block.
-pub fn advance(clock: u64, last: u32, reading: u32) -> Moved
+pub fn advance(clock: u64, last: u32, reading: u32) -> Result<u64, ClockRefusal>
     requires { clock ≤ last_tick }
     ensures { advanced_in result ≡ advance_of clock last reading }
 {
     let ticks = elapsed(reading, last);
     if HALF_TURN <= ticks {
-        return Moved::CounterWentBack;
+        return Err(ClockRefusal::CounterWentBack);
     }
     let time = clock + ticks as u64;
     if LAST_TICK < time {
-        return Moved::ClockFull;
+        return Err(ClockRefusal::ClockFull);
     }
-    Moved::To(time)
+    Ok(time)
 }

@@ -16,14 +16,12 @@ use Rattle.rules.specs.Records.{stream_of, runner_tests, tasks_read}
 use Rattle.rules.proofs.Runner.{runner_refused, runner_table}
 use Rattle.table.specs.declared.Table.{Table}
 use Rattle.table.specs.Stored.{table_of, verdict_in}
-use Rattle.lists.specs.declared.Who.{Who}
 use Rattle.lists.specs.Answers.{who_in}
 use Rattle.stream.specs.Load.{table_in}
 use Rattle.stream.proofs.Loading.{table_verdict}
 use Rattle.kernel.specs.declared.Block.{Block}
 use Rattle.kernel.specs.declared.Called.{Called}
 use Rattle.kernel.specs.declared.Refusal.{Refusal}
-use Rattle.kernel.specs.declared.Margin.{Margin}
 use Rattle.kernel.specs.declared.Answer.TheVariants.{Accepted, Refused}
 use Rattle.kernel.specs.declared.start.Started.{Started}
 use Rattle.kernel.specs.declared.asks.Listed.{Listed}
@@ -34,6 +32,8 @@ use Rattle.kernel.specs.Start.{Starts}
 use Rattle.kernel.specs.Asks.{listed_in, GivesListing}
 use Rattle.image.specs.Bytes.{size, bytes_of, block_in}
 use Rattle.export.specs.Door.{kind_of, ticks_of, Answers, Tells, TellsStart, number_by, TellsListing, TellsWhole}
+use Rattle.std.specs.Prelude.{Option}
+use Rattle.table.specs.declared.TaskNo.{TaskNo}
 
 -- ---- what a call gave back, stored
 
@@ -41,7 +41,7 @@ module _ (called : Called) (bytes answer : List ℕ) where
   pub answers_refused : {q : Refusal} → called.answer ≡ Refused q → {r : ℕ} → r ≡ number_of (refusal_in q) → Answers called bytes answer r bytes answer
   answers_refused e n = rw e (n, refl, refl)
 
-  pub answers_accepted : {w : Who} {m : ℕ} {g : Margin} → called.answer ≡ Accepted w m g → {after : List ℕ} {x k t : ℕ}
+  pub answers_accepted : {w : Option TaskNo} {m : ℕ} {g : Option ℤ} → called.answer ≡ Accepted w m g → {after : List ℕ} {x k t : ℕ}
       → after ≡ written (bytes_of called.block) bytes → x ≡ task_in (who_in w) → k ≡ kind_of (margin_in g) → t ≡ ticks_of (margin_in g)
       → Answers called bytes answer 0 after (x ∷ m ∷ k ∷ t ∷ [])
   answers_accepted {m = m} e a x k t = rw e (refl, a, λ i. x i ∷ m ∷ k i ∷ t i ∷ [])

@@ -10,9 +10,9 @@ use mir.Val.{SFits, to_z, of_z}
 use mir.Facts.{to_z-of_z}
 use Rattle.laws.proofs.Bools.{clash}
 use Rattle.rules.specs.Calls.{Ticks}
-use Rattle.kernel.specs.declared.Margin.{Margin}
 use Rattle.kernel.specs.Answers.{margin_in}
 use Rattle.export.specs.Door.{kind_of, ticks_of}
+use Rattle.std.specs.Prelude.{Option}
 
 -- a number as it lies in 64 bits
 abbrev in_word : ℤ → ℤ
@@ -26,7 +26,7 @@ not_below : (z : ℤ) → lt_z z (pos 0) ≡ false → (1 ≡ kind_of (Ticks z))
 not_below (pos n) h = (refl, refl)
 not_below (negsuc n) h = clash cc
 
-module _ (m : Margin) {z : ℤ} (is : m ≡ Margin.Ticks z) (f : SFits w64 z) where
+module _ (m : Option ℤ) {z : ℤ} (is : m ≡ Margin.Ticks z) (f : SFits w64 z) where
   pub margin_below : lt_z (in_word z) (pos 0) ≡ true → (2 ≡ kind_of (margin_in m)) × (nat_abs (in_word z) ≡ ticks_of (margin_in m))
   margin_below h = rw (is, to_z-of_z f) (below z (rw (to_z-of_z f) at h))
 

@@ -9,11 +9,7 @@ use Rattle.laws.specs.Words.{digit}
 use Rattle.rules.specs.Table.{most}
 use Rattle.table.specs.declared.Task.{Task}
 use Rattle.table.specs.declared.TaskNo.{TaskNo}
-use Rattle.lists.specs.declared.Who.{Who}
-use Rattle.lists.specs.declared.Who.TheVariants.{Nobody, One}
 use Rattle.jobs.specs.declared.Job.{Job}
-use Rattle.jobs.specs.declared.Last.{Last}
-use Rattle.jobs.specs.declared.Last.TheVariants.{Never, At}
 use Rattle.jobs.specs.declared.Tasks.{Tasks}
 use Rattle.lists.specs.declared.Stored.{Stored}
 use Rattle.lists.specs.Answers.{stored_of, lists_of}
@@ -23,6 +19,7 @@ use Rattle.image.specs.Bytes.{task_from, tasks_from, last_from, job_from, who_fr
 use Rattle.image.specs.Bytes.{TaskFits, TasksFit, LastFits, JobFits, WhoFits, TaskNoFits, StoredFits, Fits}
 use Rattle.image.proofs.Putting.{little_length}
 use Rattle.image.proofs.Standing.{Stands, stands_between, Codec, then, array, word_codec, long_word_codec}
+use Rattle.std.specs.Prelude.{None, Option, Some}
 
 -- ---- the parts
 
@@ -34,13 +31,13 @@ task_codec =
       kept = λ x f s at h. ap (λ (p : (ℕ × ℕ) × ℕ). record { c = p.0.0; d = p.0.1; t = p.1 }) (three.kept ((x.c, x.d), x.t) ((f.0, f.1), f.2) s at h);
     }
 
-last_long : (x : Last) → length (last_bytes x) ≡ 9
-last_long Never = ap suc (little_length 8 0)
-last_long (At time) = ap suc (little_length 8 time)
+last_long : (x : Option ℕ) → length (last_bytes x) ≡ 9
+last_long None = ap suc (little_length 8 0)
+last_long (Some time) = ap suc (little_length 8 time)
 
-last_kept : (x : Last) → LastFits x → (s : List ℕ) (at : ℕ) → Stands s at (last_bytes x) → last_from s at ≡ x
-last_kept Never f s at h = rw h.0
-last_kept (At time) f s at h = rw h.0 (ap At (long_word_codec.kept time f s (at + 1) h.1))
+last_kept : (x : Option ℕ) → LastFits x → (s : List ℕ) (at : ℕ) → Stands s at (last_bytes x) → last_from s at ≡ x
+last_kept None f s at h = rw h.0
+last_kept (Some time) f s at h = rw h.0 (ap Some (long_word_codec.kept time f s (at + 1) h.1))
 
 says_digit : (b : Bool) → not (eqb (digit b) 0) ≡ b
 says_digit true = refl
@@ -51,17 +48,17 @@ job_codec =
     record {
       long = λ x f. ap suc (last_long x.last);
       kept =
-          λ x f s at h. ap₂ (λ (u : Bool) (v : Last). record { active = u; last = v })
+          λ x f s at h. ap₂ (λ (u : Bool) (v : Option ℕ). record { active = u; last = v })
           (ap (λ (k : ℕ). not (eqb k 0)) h.0 ∙ says_digit x.active) (last_kept x.last f s (at + 1) h.1);
     }
 
-who_long : (x : Who) → length (who_bytes x) ≡ 2
-who_long Nobody = refl
-who_long (One k) = refl
+who_long : (x : Option TaskNo) → length (who_bytes x) ≡ 2
+who_long None = refl
+who_long (Some k) = refl
 
-who_kept : (x : Who) → WhoFits x → (s : List ℕ) (at : ℕ) → Stands s at (who_bytes x) → who_from s at ≡ x
-who_kept Nobody f s at h = rw h.0
-who_kept (One k) f s at h = rw h.0 (ap (λ (n : ℕ). One (record { 0 = n })) h.1.0)
+who_kept : (x : Option TaskNo) → WhoFits x → (s : List ℕ) (at : ℕ) → Stands s at (who_bytes x) → who_from s at ≡ x
+who_kept None f s at h = rw h.0
+who_kept (Some k) f s at h = rw h.0 (ap (λ (n : ℕ). Some (record { 0 = n })) h.1.0)
 
 who_codec : Codec WhoFits who_bytes who_from 2
 who_codec = record { long = λ x f. who_long x; kept = who_kept }
@@ -93,7 +90,7 @@ stored_codec =
 -- ---- the block
 
 abbrev Parts : Type 0
-Parts = ((Tasks × List Job) × (Who × Stored)) × (ℕ × ℕ)
+Parts = ((Tasks × List Job) × (Option TaskNo × Stored)) × (ℕ × ℕ)
 
 kept : (b : Block) → Fits b → (length (bytes_of b) ≡ size) × ((s : List ℕ) → Stands s 0 (bytes_of b) → block_in s ≡ b)
 unfolding bytes_of block_in

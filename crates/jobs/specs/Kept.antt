@@ -1,5 +1,5 @@
 -- The jobs that are kept, as the rules' families: a last release and a flag for each task.
-use Rattle.std.specs.Prelude.{ℕ, ◌≤◌, ◌≡◌, Bool, true, false, ◌&&◌, List, get_or}
+use Rattle.std.specs.Prelude.{ℕ, ◌≤◌, ◌≡◌, Bool, true, false, ◌&&◌, List, get_or, Option, None, Some}
 use Rattle.laws.specs.Words.{pick}
 use Rattle.rules.specs.Numbers.{Passed, first_of}
 use Rattle.rules.specs.Table.{is_task, tests_to3}
@@ -8,19 +8,17 @@ use Rattle.rules.specs.State as Rules
 use Rattle.table.specs.declared.Table.{Table}
 use Rattle.table.specs.Stored.{table_of}
 use Rattle.levels.specs.Copy.{CopyOf}
-use Rattle.jobs.specs.declared.Last.{Last}
-use Rattle.jobs.specs.declared.Last.TheVariants as Last
 use Rattle.jobs.specs.declared.Job.{Job}
 use Rattle.jobs.specs.declared.Tasks.{Tasks}
 
 -- "a task's last accepted release": never, or a time
-abbrev pub last_in : Last → Rules.Last
-last_in Last.Never = Rules.Never
-last_in (Last.At time) = Rules.At time
+abbrev pub last_in : Option ℕ → Rules.Last
+last_in None = Rules.Never
+last_in (Some time) = Rules.At time
 
 -- a place where there is no job
 abbrev pub no_job : Job
-no_job = record { active = false; last = Last.Never }
+no_job = record { active = false; last = None }
 
 abbrev pub job_at : List Job → ℕ → Job
 job_at jobs k = get_or jobs k no_job

@@ -14,18 +14,11 @@ ghost use Rattle.jobs.specs.Kept.{last_in, released_in, levels_at, Dated, Levell
 use levels::{level_in, remaining};
 use table::{Level, MOST, PLACES, Table, TaskNo};
 
-// A task's last accepted release: never, or at this time.
-#[derive(Clone, Copy)]
-pub enum Last {
-    Never,
-    At(u64),
-}
-
-// Whether the task's job is active, and its last release.
+// Whether the task's job is active, and when its last release was accepted, if there was one.
 #[derive(Clone, Copy)]
 pub struct Job {
     pub active: bool,
-    pub last: Last,
+    pub last: Option<u64>,
 }
 
 // The table, and its deadlines in rising order, "laid down at start".
@@ -43,12 +36,12 @@ pub fn in_table(count: usize, task: TaskNo) -> bool
 }
 
 // The time of a release; 0 where there was none.
-pub fn time_of(last: Last) -> u64
+pub fn time_of(last: Option<u64>) -> u64
     ensures { result ≡ time_of (last_in last) }
 {
     match last {
-        Last::Never => 0,
-        Last::At(time) => time,
+        None => 0,
+        Some(time) => time,
     }
 }
 

@@ -37,7 +37,6 @@ use Rattle.lists.specs.Answers.{who_in, Holds}
 use Rattle.lists.specs.Held.{list_at}
 use Rattle.lists.proofs.Together.{in_all}
 use Rattle.lists.proofs.Walks.{lists_held}
-use Rattle.jobs.specs.declared.Last.TheVariants.{At}
 use Rattle.jobs.specs.declared.Job.{Job}
 use Rattle.jobs.specs.declared.Tasks.{Tasks}
 use Rattle.jobs.specs.Kept.{last_in, job_at, released_in, levels_at, Dated, Levelled}
@@ -50,40 +49,38 @@ use Rattle.ready.proofs.Results.{kept_is}
 use Rattle.whole.proofs.Wholeness.{whole_state, state_whole}
 use Rattle.kernel.specs.declared.Block.{Block}
 use Rattle.kernel.specs.declared.Called.{Called}
-use Rattle.kernel.specs.declared.Margin.TheVariants as Margin
 use Rattle.kernel.specs.Block.{view_of, Whole, SameTasks}
 use Rattle.kernel.specs.declared.Refusal.{Refusal}
-use Rattle.kernel.specs.declared.tests.Checked.{Checked}
-use Rattle.kernel.specs.declared.tests.Checked.TheVariants as Checked
 use Rattle.kernel.specs.Answers.{refusal_in, answer_in}
 use Rattle.kernel.specs.Tests.{checked_in, checked_of}
 use Rattle.kernel.specs.Calls.{Does, refused_as, accepted_as, Goes}
 use Rattle.clock.proofs.Answers.{verdict_kept, time_kept}
+use Rattle.std.specs.Prelude.{Err, None, Ok, Result, Some}
 
 -- ---- what the tests found
 
-module _ (b : Block) (c : Call) (w : Whole b) (r : Checked) (found : checked_in r ≡ checked_of (view_of b) c) where
+module _ (b : Block) (c : Call) (w : Whole b) (r : Result ℕ Refusal) (found : checked_in r ≡ checked_of (view_of b) c) where
   verdict : first_of (tests_of (view_of b) c) ≡ (checked_in r).verdict
   verdict = sym (ap (λ (x : Advanced). x.verdict) found ∙ verdict_kept (time_at (view_of b) (reading_of c)) (first_of (tests_of (view_of b) c)))
 
   -- the call goes on, at its time
-  pub goes : {time : ℕ} → r ≡ Checked.Go time → Goes b c time
+  pub goes : {time : ℕ} → r ≡ Ok time → Goes b c time
   goes e =
-      let passed : first_of (tests_of (view_of b) c) ≡ Passed = verdict ∙ ap (λ (x : Checked). (checked_in x).verdict) e in
+      let passed : first_of (tests_of (view_of b) c) ≡ Passed = verdict ∙ ap (λ (x : Result ℕ Refusal). (checked_in x).verdict) e in
       record {
         whole = w;
         passed = passed;
         at =
-            sym (ap (λ (x : Checked). (checked_in x).time) e) ∙ ap (λ (x : Advanced). x.time) found
+            sym (ap (λ (x : Result ℕ Refusal). (checked_in x).time) e) ∙ ap (λ (x : Advanced). x.time) found
             ∙ time_kept (time_at (view_of b) (reading_of c)) (first_of (tests_of (view_of b) c)) passed;
       }
 
   -- it is refused
-  pub refuses : {q : Refusal} → r ≡ Checked.No q → {x : Called} → x ≡ refused_as q b → Does b c x
+  pub refuses : {q : Refusal} → r ≡ Err q → {x : Called} → x ≡ refused_as q b → Does b c x
   unfolding step_of
   refuses {q} e is =
       subst (Does b c) (sym is)
-      (let failed : first_of (tests_of (view_of b) c) ≡ Failed (refusal_in q) = verdict ∙ ap (λ (x : Checked). (checked_in x).verdict) e in
+      (let failed : first_of (tests_of (view_of b) c) ≡ Failed (refusal_in q) = verdict ∙ ap (λ (x : Result ℕ Refusal). (checked_in x).verdict) e in
       record {
         answer = sym (ap (λ (v : Verdict). (step_by (view_of b) c v).answer) failed);
         view = sym (ap (λ (v : Verdict). (step_by (view_of b) c v).state) failed);
@@ -187,7 +184,7 @@ module _ {b : Block} {c : Call} {time : ℕ} (g : Goes b c time) where
 -- ---- clock: "nothing more"
 
 pub moved_does : {b : Block} {n time : ℕ} → Goes b (Clock n) time → (after : Ready) → Keeps after (moved (view_of b) time n).ready → (m : ℕ) → m ≡ moves_of (view_of b) time
-    → {r : Called} → r ≡ accepted_as b after time n m Margin.None → Does b (Clock n) r
+    → {r : Called} → r ≡ accepted_as b after time n m None → Does b (Clock n) r
 moved_does {b} {n} {time} g after k m e is =
     subst (Does b (Clock n)) (sym is)
     (committed g _ (record { tasks = refl; free = λ j f. refl }) (record { lists = _; stores = k.stores })
@@ -254,7 +251,7 @@ module _ {b : Block} {n k time : ℕ} (g : Goes b (Done n k) time) where
 
     pub ended_does : (z : ℤ) → z ≡ remaining_of (Rules.deadline_in (view_of b) k) time → (m : ℕ) → m ≡ moves_of (view_of b) time
         → (after : Ready) → Keeps after (leave (moved (view_of b) time n).ready)
-        → {r : Called} → r ≡ accepted_as (record { tasks = b.tasks; jobs = set b.jobs k over; ready = b.ready; now = b.now }) after time n m (Margin.Ticks z)
+        → {r : Called} → r ≡ accepted_as (record { tasks = b.tasks; jobs = set b.jobs k over; ready = b.ready; now = b.now }) after time n m (Some z)
         → Does b (Done n k) r
     ended_does z e m f after h is =
         subst (Does b (Done n k)) (sym is)
@@ -276,7 +273,7 @@ module _ {b : Block} {n k time : ℕ} (g : Goes b (Release n k) time) where
   may = release_allowed (view_of b) n k g.passed
 
   abbrev begins : Job
-  begins = record { active = true; last = At time }
+  begins = record { active = true; last = Some time }
 
   pub released_task : is_task (table_of b.tasks.table) k ≡ true
   released_task = may.task
@@ -321,7 +318,7 @@ module _ {b : Block} {n k time : ℕ} (g : Goes b (Release n k) time) where
         }
 
     pub begun_does : (m : ℕ) → m ≡ moves_of (view_of b) time → (after : Ready) → Keeps after (enter levels k (moved (view_of b) time n).ready)
-        → {r : Called} → r ≡ accepted_as (record { tasks = b.tasks; jobs = jobs; ready = b.ready; now = b.now }) after time n m Margin.None → Does b (Release n k) r
+        → {r : Called} → r ≡ accepted_as (record { tasks = b.tasks; jobs = jobs; ready = b.ready; now = b.now }) after time n m None → Does b (Release n k) r
     begun_does m f after h is =
         subst (Does b (Release n k)) (sym is)
         (committed g _ (same_stored g long k released_task begins after time n) (record { lists = _; stores = h.stores })

@@ -19,8 +19,6 @@ use Rattle.kernel.specs.declared.Block.{Block}
 use Rattle.kernel.specs.declared.Called.{Called}
 use Rattle.kernel.specs.declared.Refusal.{Refusal}
 use Rattle.kernel.specs.declared.Refusal.TheVariants as Refusal
-use Rattle.kernel.specs.declared.Margin.{Margin}
-use Rattle.kernel.specs.declared.Margin.TheVariants as Margin
 use Rattle.kernel.specs.declared.Answer.{Answer}
 use Rattle.kernel.specs.declared.Answer.TheVariants as Answer
 use Rattle.kernel.specs.declared.asks.Listed.{Listed}
@@ -31,13 +29,12 @@ use Rattle.kernel.specs.declared.asks.Planned.{Planned}
 use Rattle.kernel.specs.Block.{Sizes, SameTasks}
 use Rattle.kernel.specs.Answers.{refusal_in, margin_in, answer_in}
 use Rattle.clock.specs.Advance.{Advanced}
-use Rattle.kernel.specs.declared.tests.Checked.{Checked}
-use Rattle.kernel.specs.declared.tests.Checked.TheVariants as Checked
 use Rattle.kernel.specs.Tests.{checked_in}
 use Rattle.kernel.specs.Calls.{Does, Gives, GivesBy}
 use Rattle.kernel.specs.Asks.{listed_in, GivesListing, asked_in, PlansAs, GivesPlan}
 use Rattle.kernel.proofs.Views.{blocks_one}
 use Rattle.kernel.proofs.Fifteen.{both_15}
+use Rattle.std.specs.Prelude.{Err, None, Ok, Option, Result, Some}
 
 -- ---- what an answer says determines it
 
@@ -61,11 +58,11 @@ refusal_same Refusal.NotRunning = refl
 pub refusal_one : (p q : Refusal) → Numbers.number_of (refusal_in p) ≡ Numbers.number_of (refusal_in q) → p ≡ q
 refusal_one p q e = sym (refusal_same p) ∙ ap refusal_by e ∙ refusal_same q
 
-margin_one : (a b : Margin) → margin_in a ≡ margin_in b → a ≡ b
-margin_one Margin.None Margin.None e = refl
-margin_one Margin.None (Margin.Ticks t) e = clash cc
-margin_one (Margin.Ticks t) Margin.None e = clash cc
-margin_one (Margin.Ticks t) (Margin.Ticks u) e = cc
+margin_one : (a b : Option ℤ) → margin_in a ≡ margin_in b → a ≡ b
+margin_one None None e = refl
+margin_one None (Some t) e = clash cc
+margin_one (Some t) None e = clash cc
+margin_one (Some t) (Some u) e = cc
 
 pub answer_one : (a b : Answer) → answer_in a ≡ answer_in b → a ≡ b
 answer_one (Answer.Accepted w m g) (Answer.Accepted v n h) e =
@@ -85,11 +82,11 @@ failed Numbers.Passed = 0
 failed (Numbers.Failed r) = 1
 
 -- what the tests found
-pub checked_one : (a b : Checked) → checked_in a ≡ checked_in b → a ≡ b
-checked_one (Checked.Go t) (Checked.Go u) e = ap (λ (x : Advanced). Checked.Go x.time) e
-checked_one (Checked.Go t) (Checked.No q) e = clash (ap (λ (x : Advanced). failed x.verdict) e)
-checked_one (Checked.No p) (Checked.Go u) e = clash (sym (ap (λ (x : Advanced). failed x.verdict) e))
-checked_one (Checked.No p) (Checked.No q) e = ap Checked.No (refusal_one p q (ap (λ (x : Advanced). Numbers.number_in x.verdict) e))
+pub checked_one : (a b : Result ℕ Refusal) → checked_in a ≡ checked_in b → a ≡ b
+checked_one (Ok t) (Ok u) e = ap (λ (x : Advanced). Ok x.time) e
+checked_one (Ok t) (Err q) e = clash (ap (λ (x : Advanced). failed x.verdict) e)
+checked_one (Err p) (Ok u) e = clash (sym (ap (λ (x : Advanced). failed x.verdict) e))
+checked_one (Err p) (Err q) e = ap Err (refusal_one p q (ap (λ (x : Advanced). Numbers.number_in x.verdict) e))
 
 -- ---- the calls
 

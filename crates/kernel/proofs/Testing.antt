@@ -17,21 +17,16 @@ use Rattle.table.proofs.Tests.{nth}
 use Rattle.clock.specs.Advance.{Advanced, advanced_by, advance_of, advanced_in}
 use Rattle.clock.specs.declared.Moved.{Moved}
 use Rattle.clock.proofs.Answers.{verdict_kept, time_kept}
-use Rattle.lists.specs.declared.Who.{Who}
-use Rattle.lists.specs.declared.Who.TheVariants as Who
 use Rattle.lists.specs.Answers.{who_in}
-use Rattle.jobs.specs.declared.Last.{Last}
-use Rattle.jobs.specs.declared.Last.TheVariants as Last
 use Rattle.jobs.specs.Kept.{last_in, job_at, Dated}
 use Rattle.jobs.proofs.Keeping.{task_asked, dated_entry}
 use Rattle.kernel.specs.declared.Block.{Block}
 use Rattle.kernel.specs.declared.Refusal.{Refusal}
 use Rattle.kernel.specs.declared.Refusal.TheVariants as Refusal
-use Rattle.kernel.specs.declared.tests.Checked.{Checked}
-use Rattle.kernel.specs.declared.tests.Checked.TheVariants as Checked
 use Rattle.kernel.specs.Block.{view_of, Whole}
 use Rattle.kernel.specs.Answers.{refusal_in}
 use Rattle.kernel.specs.Tests.{checked_in, go_on, checked_of}
+use Rattle.std.specs.Prelude.{Err, None, Ok, Option, Result, Some}
 
 -- ---- tests 5 and 6, and those behind them
 
@@ -44,25 +39,25 @@ clock_answered s n e h = ap advanced_in (sym e) ∙ h
 abbrev early : State → Call → List Test
 early s c = clock_tests s.clock s.reading (reading_of c)
 
-module _ (s : State) (c : Call) (r : Checked) (found : checked_in r ≡ checked_of s (Clock (reading_of c))) where
+module _ (s : State) (c : Call) (r : Result ℕ Refusal) (found : checked_in r ≡ checked_of s (Clock (reading_of c))) where
   early_verdict : first_of (early s c) ≡ (checked_in r).verdict
   unfolding tests_of
   early_verdict = sym (ap (λ (x : Advanced). x.verdict) found ∙ verdict_kept (time_at s (reading_of c)) (first_of (early s c)))
 
   -- what 5 and 6 refuse is refused
-  pub refused_early : {q : Refusal} → r ≡ Checked.No q → checked_in (Checked.No q) ≡ checked_of s c
+  pub refused_early : {q : Refusal} → r ≡ Err q → checked_in (Err q) ≡ checked_of s c
   unfolding tests_of
   refused_early {q} e =
       ap (advanced_by (time_at s (reading_of c)))
-      (sym (first_append_failed (early s c) (later_tests s c) (refusal_in q) (early_verdict ∙ ap (λ (x : Checked). (checked_in x).verdict) e)))
+      (sym (first_append_failed (early s c) (later_tests s c) (refusal_in q) (early_verdict ∙ ap (λ (x : Result ℕ Refusal). (checked_in x).verdict) e)))
 
   -- and what they let pass goes on, at its time, to the tests behind them
-  pub goes_on : (tests : ℕ → List Test) → tests (time_at s (reading_of c)) ≡ later_tests s c → {t : ℕ} → r ≡ Checked.Go t → go_on t (tests t) ≡ checked_of s c
+  pub goes_on : (tests : ℕ → List Test) → tests (time_at s (reading_of c)) ≡ later_tests s c → {t : ℕ} → r ≡ Ok t → go_on t (tests t) ≡ checked_of s c
   unfolding tests_of
   goes_on tests same {t} e =
-      let v : first_of (early s c) ≡ Passed = early_verdict ∙ ap (λ (x : Checked). (checked_in x).verdict) e in
+      let v : first_of (early s c) ≡ Passed = early_verdict ∙ ap (λ (x : Result ℕ Refusal). (checked_in x).verdict) e in
       let is : t ≡ time_at s (reading_of c) =
-      sym (ap (λ (x : Checked). (checked_in x).time) e) ∙ ap (λ (x : Advanced). x.time) found ∙ time_kept (time_at s (reading_of c)) (first_of (early s c)) v in
+      sym (ap (λ (x : Result ℕ Refusal). (checked_in x).time) e) ∙ ap (λ (x : Advanced). x.time) found ∙ time_kept (time_at s (reading_of c)) (first_of (early s c)) v in
       ap (λ (n : ℕ). go_on n (tests n)) is ∙ ap (go_on (time_at s (reading_of c))) same
       ∙ ap (advanced_by (time_at s (reading_of c))) (sym (first_append (early s c) (later_tests s c) v))
 
@@ -80,14 +75,14 @@ module _ (b : Block) (long : length b.tasks.table.tasks ≡ most) (k : ℕ) {r :
   pub asked_dated : Whole b → not r ≡ false → Dated b.tasks.table b.jobs k
   asked_dated w h = record { tested = w.tasks_whole.table; task = asked_task h; past = omega (arith, w.jobs_whole.past k, w.ticks) }
 
-  pub no_such_task : (time : ℕ) (xs : List Test) → not r ≡ true → checked_in (Checked.No Refusal.NoSuchTask) ≡ go_on time (task_test (view_of b).table k ∷ xs)
+  pub no_such_task : (time : ℕ) (xs : List Test) → not r ≡ true → checked_in (Err Refusal.NoSuchTask) ≡ go_on time (task_test (view_of b).table k ∷ xs)
   unfolding first_of
   no_such_task time xs h = rw (asked_none h)
 
 -- ---- tests 8 and 9
 
 -- a release at t, and spacing counted from it
-module _ {l : Last} {t : ℕ} (e : l ≡ Last.At t) where
+module _ {l : Option ℕ} {t : ℕ} (e : l ≡ Some t) where
   pub time_found : time_of (last_in l) ≡ t
   time_found = rw e
 
@@ -95,7 +90,7 @@ module _ {l : Last} {t : ℕ} (e : l ≡ Last.At t) where
   soon_at spacing time = rw e
 
 module _ (b : Block) (time k : ℕ) (d : Dated b.tasks.table b.jobs k) where
-  pub task_active : (job_at b.jobs k).active ≡ true → checked_in (Checked.No Refusal.TaskActive) ≡ go_on time (release_tests (view_of b) time k)
+  pub task_active : (job_at b.jobs k).active ≡ true → checked_in (Err Refusal.TaskActive) ≡ go_on time (release_tests (view_of b) time k)
   unfolding first_of
   task_active a = rw (d.task, a)
 
@@ -103,24 +98,24 @@ module _ (b : Block) (time k : ℕ) (d : Dated b.tasks.table b.jobs k) where
     abbrev soon : Bool
     soon = too_soon (last_in (job_at b.jobs k).last) (nth b.tasks.table (k - 1)).t time
 
-    pub released_soon : soon ≡ true → checked_in (Checked.No Refusal.TooSoon) ≡ go_on time (release_tests (view_of b) time k)
+    pub released_soon : soon ≡ true → checked_in (Err Refusal.TooSoon) ≡ go_on time (release_tests (view_of b) time k)
     unfolding first_of
     released_soon h = rw (d.task, dated_entry d long, a, h)
 
-    pub release_allowed : soon ≡ false → checked_in (Checked.Go time) ≡ go_on time (release_tests (view_of b) time k)
+    pub release_allowed : soon ≡ false → checked_in (Ok time) ≡ go_on time (release_tests (view_of b) time k)
     unfolding first_of
     release_allowed h = rw (d.task, dated_entry d long, a, h)
 
 -- ---- test 10
 
-pub runs_one : {w : Who} {t : TaskNo} → w ≡ Who.One t → (k : ℕ) → eqb t.0 k ≡ is_running (who_in w) k
+pub runs_one : {w : Option TaskNo} {t : TaskNo} → w ≡ Some t → (k : ℕ) → eqb t.0 k ≡ is_running (who_in w) k
 runs_one e k = rw e
 
 module _ (b : Block) (time k : ℕ) (task : is_task (view_of b).table k ≡ true) where
-  pub not_running : is_running (who_in b.ready.running) k ≡ false → checked_in (Checked.No Refusal.NotRunning) ≡ go_on time (done_tests (view_of b) k)
+  pub not_running : is_running (who_in b.ready.running) k ≡ false → checked_in (Err Refusal.NotRunning) ≡ go_on time (done_tests (view_of b) k)
   unfolding first_of
   not_running h = rw (task, h)
 
-  pub end_allowed : is_running (who_in b.ready.running) k ≡ true → checked_in (Checked.Go time) ≡ go_on time (done_tests (view_of b) k)
+  pub end_allowed : is_running (who_in b.ready.running) k ≡ true → checked_in (Ok time) ≡ go_on time (done_tests (view_of b) k)
   unfolding first_of
   end_allowed h = rw (task, h)

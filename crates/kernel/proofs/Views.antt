@@ -11,21 +11,20 @@ use Rattle.lists.specs.Links.{Stores}
 use Rattle.lists.proofs.Walks.{lists_held}
 use Rattle.lists.proofs.Determined.{arrays_one}
 use Rattle.lists.proofs.Results.{who_one}
-use Rattle.jobs.specs.declared.Last.{Last}
-use Rattle.jobs.specs.declared.Last.TheVariants as Last
 use Rattle.jobs.specs.declared.Job.{Job}
 use Rattle.jobs.specs.declared.Tasks.{Tasks}
 use Rattle.jobs.specs.Kept.{last_in, job_at, no_job, released_in, active_in}
 use Rattle.kernel.specs.declared.Block.{Block}
 use Rattle.kernel.specs.Block.{view_of, Whole, Sizes, SameTasks}
+use Rattle.std.specs.Prelude.{None, Option, Some}
 
 -- ---- determined
 
-last_one : (a b : Last) → last_in a ≡ last_in b → a ≡ b
-last_one Last.Never Last.Never e = refl
-last_one Last.Never (Last.At t) e = cc
-last_one (Last.At t) Last.Never e = cc
-last_one (Last.At t) (Last.At u) e = cc
+last_one : (a b : Option ℕ) → last_in a ≡ last_in b → a ≡ b
+last_one None None e = refl
+last_one None (Some t) e = cc
+last_one (Some t) None e = cc
+last_one (Some t) (Some u) e = cc
 
 module _ (table : _) (a b : List Job) (active : (k : ℕ) → active_in table b k ≡ active_in table a k) (released : (k : ℕ) → released_in table b k ≡ released_in table a k)
     (free : (k : ℕ) → is_task (table_of table) k ≡ false → job_at b k ≡ job_at a k) where
@@ -36,7 +35,7 @@ module _ (table : _) (a b : List Job) (active : (k : ℕ) → active_in table b 
       go true e p q =
           let u : (job_at b k).active ≡ (job_at a k).active = rw e at p in
           let v : last_in (job_at b k).last ≡ last_in (job_at a k).last = rw e at q in
-          ap₂ (λ (x : Bool) (y : Last). record { active = x; last = y }) u (last_one _ _ v)
+          ap₂ (λ (x : Bool) (y : Option ℕ). record { active = x; last = y }) u (last_one _ _ v)
       go false e p q = free k e
 
 -- two whole blocks with the same table, the same free places and the same view are equal

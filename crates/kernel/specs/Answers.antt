@@ -1,13 +1,11 @@
 -- What the answers of a call say, as the rules' answers. "No." and "With it" of a refusal are those of the rules' `number_of` and `value_of`.
+use Rattle.std.specs.Prelude.{ℤ, Option, None, Some, Result, Ok, Err}
 use Rattle.rules.specs.Numbers as Numbers
 use Rattle.rules.specs.Calls as Calls
 use Rattle.lists.specs.Answers.{who_in}
 use Rattle.kernel.specs.declared.Refusal.{Refusal}
 use Rattle.kernel.specs.declared.Refusal.TheVariants as Refusal
-use Rattle.kernel.specs.declared.Margin.{Margin}
-use Rattle.kernel.specs.declared.Margin.TheVariants as Margin
-use Rattle.kernel.specs.declared.Answer.{Answer}
-use Rattle.kernel.specs.declared.Answer.TheVariants as Answer
+use Rattle.kernel.specs.declared.Accepted.{Accepted}
 
 abbrev pub refusal_in : Refusal → Numbers.Refusal
 refusal_in Refusal.NotWhole = Numbers.NotWhole
@@ -17,11 +15,12 @@ refusal_in Refusal.NoSuchTask = Numbers.NoSuchTask
 refusal_in Refusal.TaskActive = Numbers.TaskActive
 refusal_in Refusal.TooSoon = Numbers.TooSoon
 refusal_in Refusal.NotRunning = Numbers.NotRunning
+refusal_in Refusal.BufferTooShort = Numbers.BufferTooShort
 
-abbrev pub margin_in : Margin → Calls.Margin
-margin_in Margin.None = Calls.None
-margin_in (Margin.Ticks t) = Calls.Ticks t
+abbrev pub margin_in : Option ℤ → Calls.Margin
+margin_in None = Calls.None
+margin_in (Some t) = Calls.Ticks t
 
-abbrev pub answer_in : Answer → Calls.Answer
-answer_in (Answer.Accepted running moves margin) = Calls.Accepted (who_in running) moves (margin_in margin)
-answer_in (Answer.Refused r) = Calls.Refused (refusal_in r)
+abbrev pub answer_in : Result Accepted Refusal → Calls.Answer
+answer_in (Ok a) = Calls.Accepted (who_in a.running) a.moves (margin_in a.margin)
+answer_in (Err r) = Calls.Refused (refusal_in r)

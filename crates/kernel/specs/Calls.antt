@@ -1,5 +1,5 @@
 -- What a call on a block gives back: the contracts of release, done and clock.
-use Rattle.std.specs.Prelude.{ℕ, ◌≡◌, Bool, true, false}
+use Rattle.std.specs.Prelude.{ℕ, ℤ, ◌≡◌, Bool, true, false, Option, Ok, Err}
 use Rattle.rules.specs.Numbers.{Passed, first_of}
 use Rattle.rules.specs.Numbers as Numbers
 use Rattle.rules.specs.Calls.{Call, reading_of, time_at, tests_of, step_of}
@@ -9,8 +9,6 @@ use Rattle.kernel.specs.declared.Block.{Block}
 use Rattle.kernel.specs.declared.Called.{Called}
 use Rattle.kernel.specs.declared.Refusal.{Refusal}
 use Rattle.kernel.specs.declared.Refusal.TheVariants.{NotWhole}
-use Rattle.kernel.specs.declared.Margin.{Margin}
-use Rattle.kernel.specs.declared.Answer.TheVariants.{Accepted, Refused}
 use Rattle.kernel.specs.Block.{view_of, Whole, SameTasks, Test15}
 use Rattle.kernel.specs.Answers.{answer_in}
 
@@ -24,13 +22,13 @@ pub record Does (b : Block) (c : Call) (r : Called) : Type 0 where
   pub refused : (q : Numbers.Refusal) → answer_in r.answer ≡ Calls.Refused q → r.block ≡ b
 
 abbrev pub refused_as : Refusal → Block → Called
-refused_as q b = record { answer = Refused q; block = b }
+refused_as q b = record { answer = Err q; block = b }
 
 -- who runs and who waits, the time and the reading are stored, and the answer says who runs
-abbrev pub accepted_as : Block → Ready → ℕ → ℕ → ℕ → Margin → Called
+abbrev pub accepted_as : Block → Ready → ℕ → ℕ → ℕ → Option ℤ → Called
 accepted_as b ready time reading moves margin =
     record {
-      answer = Accepted ready.running moves margin;
+      answer = Ok (record { running = ready.running; moves = moves; margin = margin });
       block = record { tasks = b.tasks; jobs = b.jobs; ready = ready; now = record { clock = time; reading = reading } };
     }
 

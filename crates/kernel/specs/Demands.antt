@@ -3,7 +3,7 @@
 --
 -- `Starts`, `Gives`, `GivesListing` and `GivesPlan` are the contracts of start, of the calls release, done and clock, of listing and of plan:
 -- what is said here of every result that they allow holds of the one that the code gives.
-use Rattle.std.specs.Prelude.{ℕ, ◌*◌, ◌≤◌, ◌<◌, ◌≡◌, Bool, not, ◌↔◌, List, [], ◌∷◌, length}
+use Rattle.std.specs.Prelude.{ℕ, ◌*◌, ◌≤◌, ◌<◌, ◌≡◌, Bool, not, ◌↔◌, List, [], ◌∷◌, length, Result}
 use Rattle.rules.specs.Numbers.{Refusal, NoSuchTask, BufferTooShort, NotWhole, Test, refuse, Passed, Failed}
 use Rattle.rules.specs.Table.{most, table_tests, verdict_of}
 use Rattle.rules.specs.State.{Running, waiting}
@@ -14,12 +14,12 @@ use Rattle.rules.specs.Histories.{Event, Leads, Seen, seen_at_start, seen_after,
 use Rattle.rules.specs.Demands as Rules
 use Rattle.table.specs.declared.Table.{Table}
 use Rattle.table.specs.Stored.{table_of, verdict_in}
+use Rattle.levels.specs.declared.Plan.{Plan}
 use Rattle.kernel.specs.declared.Block.{Block}
 use Rattle.kernel.specs.declared.Called.{Called}
 use Rattle.kernel.specs.declared.Refusal.TheVariants as Code
 use Rattle.kernel.specs.declared.start.Started.{Started}
-use Rattle.kernel.specs.declared.asks.Listed.{Listed}
-use Rattle.kernel.specs.declared.asks.Planned.{Planned}
+use Rattle.kernel.specs.declared.Refusal as Given
 use Rattle.kernel.specs.Block.{view_of, Whole, Test15}
 use Rattle.kernel.specs.Answers.{answer_in}
 use Rattle.kernel.specs.Calls.{refused_as, Gives}
@@ -52,18 +52,18 @@ pub record Demand1 (b : Block) : Type 0 where
   pub number_15 : (c : Call) (r : Called) → Gives b c r → (said r ≡ Refused NotWhole) ↔ (Whole b → ⊥)
   pub unchanged : (c : Call) (r : Called) → Gives b c r → (q : Refusal) → said r ≡ Refused q → r.block ≡ b
   -- "The listing tests 15, then 11"
-  pub listing : (before : List ℕ) (r : Listed) (after : List ℕ) → GivesListing b before r after
+  pub listing : (before : List ℕ) (r : Result ℕ Given.Refusal) (after : List ℕ) → GivesListing b before r after
       → Test15 b (λ whole. Rules.Exactly (with15 (listing_tests (view_of b) before) whole) (listed_in r after).verdict)
-  pub listing_15 : (before : List ℕ) (r : Listed) (after : List ℕ) → GivesListing b before r after → ((listed_in r after).verdict ≡ Failed NotWhole) ↔ (Whole b → ⊥)
+  pub listing_15 : (before : List ℕ) (r : Result ℕ Given.Refusal) (after : List ℕ) → GivesListing b before r after → ((listed_in r after).verdict ≡ Failed NotWhole) ↔ (Whole b → ⊥)
   -- "buffer too short"
-  pub listing_11 : (before : List ℕ) (r : Listed) (after : List ℕ) → GivesListing b before r after
+  pub listing_11 : (before : List ℕ) (r : Result ℕ Given.Refusal) (after : List ℕ) → GivesListing b before r after
       → ((listed_in r after).verdict ≡ Failed BufferTooShort) ↔ (Whole b × (length before < 2 * length (waiting (view_of b))))
-  pub unwritten : (before : List ℕ) (r : Listed) (after : List ℕ) → GivesListing b before r after → (q : Refusal) → (listed_in r after).verdict ≡ Failed q → after ≡ before
+  pub unwritten : (before : List ℕ) (r : Result ℕ Given.Refusal) (after : List ℕ) → GivesListing b before r after → (q : Refusal) → (listed_in r after).verdict ≡ Failed q → after ≡ before
   -- "a task's plan, asked of a block, 15, then 7"
-  pub plan : (k : ℕ) (r : Planned) → GivesPlan b k r → Test15 b (λ whole. Rules.Exactly (with15 (task_test (view_of b).table k ∷ []) whole) (asked_in r.answer))
-  pub plan_15 : (k : ℕ) (r : Planned) → GivesPlan b k r → (asked_in r.answer ≡ Failed NotWhole) ↔ (Whole b → ⊥)
+  pub plan : (k : ℕ) (r : Result Plan Given.Refusal) → GivesPlan b k r → Test15 b (λ whole. Rules.Exactly (with15 (task_test (view_of b).table k ∷ []) whole) (asked_in r))
+  pub plan_15 : (k : ℕ) (r : Result Plan Given.Refusal) → GivesPlan b k r → (asked_in r ≡ Failed NotWhole) ↔ (Whole b → ⊥)
   -- "task 0 or above the table's count"
-  pub plan_7 : (k : ℕ) (r : Planned) → GivesPlan b k r → (asked_in r.answer ≡ Failed NoSuchTask) ↔ (Whole b × (InTable (view_of b).table k → ⊥))
+  pub plan_7 : (k : ℕ) (r : Result Plan Given.Refusal) → GivesPlan b k r → (asked_in r ≡ Failed NoSuchTask) ↔ (Whole b × (InTable (view_of b).table k → ⊥))
 
 -- ---- a history: start took a sound table and a reading. Then came calls, any list of them, each on the block that the one before gave
 -- back, refused or not. They were answered as `events` tells, and left the block `b`.

@@ -1,11 +1,10 @@
 -- What start gives back.
-use Rattle.std.specs.Prelude.{ℕ, suc, ◌-◌, ◌≡◌, [], ◌++◌, replicate}
+use Rattle.std.specs.Prelude.{ℕ, suc, ◌-◌, ◌≡◌, [], ◌++◌, replicate, None}
 use Rattle.rules.specs.Numbers.{Verdict, Passed, Failed}
 use Rattle.rules.specs.Table.{most, verdict_of}
 use Rattle.rules.specs.Levels.{rising_of}
 use Rattle.table.specs.declared.Table.{Table}
 use Rattle.table.specs.Stored.{no_entry, table_of, verdict_in}
-use Rattle.lists.specs.declared.Who.TheVariants.{Nobody}
 use Rattle.lists.specs.Links.{Stores}
 use Rattle.jobs.specs.declared.Tasks.{Tasks}
 use Rattle.jobs.specs.Kept.{no_job}
@@ -16,7 +15,7 @@ use Rattle.kernel.specs.declared.start.Started.{Started}
 pub record Fresh (tasks : Tasks) (reading : ℕ) (b : Block) : Type 0 where
   pub held : b.tasks ≡ tasks
   pub jobs : b.jobs ≡ replicate (suc most) no_job
-  pub running : b.ready.running ≡ Nobody
+  pub running : b.ready.running ≡ None
   pub lists : Stores b.ready.lists (λ l. [])
   pub now : b.now ≡ record { clock = 0; reading = reading }
 

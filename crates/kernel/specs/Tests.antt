@@ -1,17 +1,15 @@
 -- What the tests of a call find.
-use Rattle.std.specs.Prelude.{ℕ, List}
-use Rattle.rules.specs.Numbers.{Test, Passed, Failed, first_of}
+use Rattle.std.specs.Prelude.{ℕ, List, Result}
+use Rattle.rules.specs.Numbers.{Test, first_of}
 use Rattle.rules.specs.State.{State}
 use Rattle.rules.specs.Calls.{Call, reading_of, time_at, tests_of}
-use Rattle.clock.specs.Advance.{Advanced, advanced_by}
-use Rattle.kernel.specs.declared.tests.Checked.{Checked}
-use Rattle.kernel.specs.declared.tests.Checked.TheVariants as Checked
+use Rattle.clock.specs.Advance.{Advanced, advanced_by, advanced_as}
+use Rattle.kernel.specs.declared.Refusal.{Refusal}
 use Rattle.kernel.specs.Answers.{refusal_in}
 
 -- the verdict, and the time of the call where all tests passed
-abbrev pub checked_in : Checked → Advanced
-checked_in (Checked.Go time) = record { verdict = Passed; time = time }
-checked_in (Checked.No r) = record { verdict = Failed (refusal_in r); time = 0 }
+abbrev pub checked_in : Result ℕ Refusal → Advanced
+checked_in = advanced_as refusal_in
 
 -- what a list of tests at this time comes to
 abbrev pub go_on : ℕ → List Test → Advanced

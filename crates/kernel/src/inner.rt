@@ -5,9 +5,8 @@ ghost use Rattle.rules.specs.Calls.{Release, Done, Clock};
 ghost use Rattle.kernel.specs.Block.{Whole};
 ghost use Rattle.kernel.specs.Calls.{Goes, Does, refused_as, accepted_as};
 
-use super::tests::Checked;
-use super::{Answer, Block, Called, Margin, Now, Refusal};
-use jobs::{Job, Last, time_left};
+use super::{Accepted, Block, Called, Now, Refusal};
+use jobs::{Job, time_left};
 use ready::Ready;
 use table::TaskNo;
 
@@ -17,7 +16,7 @@ impl Block {
         ensures { result ≡ refused_as refusal self }
     {
         Called {
-            answer: Answer::Refused(refusal),
+            answer: Err(refusal),
             block: self,
         }
     }
@@ -27,10 +26,9 @@ impl Block {
         requires { Whole self }
         ensures { Does self (Release reading task.0) result }
     {
-        let checked = self.release_tests(reading, task);
-        match checked {
-            Checked::No(refusal) => self.refused(refusal),
-            Checked::Go(time) => self.released(reading, time, task),
+        match self.release_tests(reading, task) {
+            Err(refusal) => self.refused(refusal),
+            Ok(time) => self.released(reading, time, task),
         }
     }
 
@@ -39,10 +37,9 @@ impl Block {
         requires { Whole self }
         ensures { Does self (Done reading task.0) result }
     {
-        let checked = self.done_tests(reading, task);
-        match checked {
-            Checked::No(refusal) => self.refused(refusal),
-            Checked::Go(time) => self.ended(reading, time, task),
+        match self.done_tests(reading, task) {
+            Err(refusal) => self.refused(refusal),
+            Ok(time) => self.ended(reading, time, task),
         }
     }
 
@@ -51,10 +48,9 @@ impl Block {
         requires { Whole self }
         ensures { Does self (Clock reading) result }
     {
-        let checked = self.clock_tests(reading);
-        match checked {
-            Checked::No(refusal) => self.refused(refusal),
-            Checked::Go(time) => self.moved(reading, time),
+        match self.clock_tests(reading) {
+            Err(refusal) => self.refused(refusal),
+            Ok(time) => self.moved(reading, time),
         }
     }
 
@@ -63,20 +59,14 @@ impl Block {
         requires { Goes self (Release reading task.0) time }
         ensures { Does self (Release reading task.0) result }
     {
-        let tasks = self.tasks;
-        let jobs = self.jobs;
-        let ready = self.ready;
-        let releveled = ready.relevel(tasks, jobs, time);
-        let waiting = releveled.ready;
+        let waiting = self.ready.relevel(self.tasks, self.jobs, time);
         let k = task.0 as usize;
-        let begins = Job {
+        self.jobs[k] = Job {
             active: true,
-            last: Last::At(time),
+            last: Some(time),
         };
-        self.jobs[k] = begins;
-        let begun = self.jobs;
-        let after = waiting.enter(tasks, begun, time, task);
-        self.accepted(after, time, reading, releveled.moves, Margin::None)
+        let after = waiting.now.enter(self.tasks, self.jobs, time, task);
+        self.accepted(after, time, reading, waiting.moves, None)
     }
 
     // The running job, which is this task's, ends.
@@ -84,23 +74,16 @@ impl Block {
         requires { Goes self (Done reading task.0) time }
         ensures { Does self (Done reading task.0) result }
     {
-        let tasks = self.tasks;
-        let table = tasks.table;
-        let jobs = self.jobs;
-        let ready = self.ready;
-        let margin = time_left(table, jobs, time, task);
-        let releveled = ready.relevel(tasks, jobs, time);
-        let waiting = releveled.ready;
+        let margin = time_left(self.tasks.table, self.jobs, time, task);
+        let waiting = self.ready.relevel(self.tasks, self.jobs, time);
         let k = task.0 as usize;
         let job = self.jobs[k];
-        let last = job.last;
-        let over = Job {
+        self.jobs[k] = Job {
             active: false,
-            last,
+            last: job.last,
         };
-        self.jobs[k] = over;
-        let after = waiting.leave();
-        self.accepted(after, time, reading, releveled.moves, Margin::Ticks(margin))
+        let after = waiting.now.leave();
+        self.accepted(after, time, reading, waiting.moves, Some(margin))
     }
 
     // The clock has moved, and nothing more.
@@ -108,12 +91,8 @@ impl Block {
         requires { Goes self (Clock reading) time }
         ensures { Does self (Clock reading) result }
     {
-        let tasks = self.tasks;
-        let jobs = self.jobs;
-        let ready = self.ready;
-        let after = ready.relevel(tasks, jobs, time);
-        let waiting = after.ready;
-        self.accepted(waiting, time, reading, after.moves, Margin::None)
+        let waiting = self.ready.relevel(self.tasks, self.jobs, time);
+        self.accepted(waiting.now, time, reading, waiting.moves, None)
     }
 
     // Who runs and who waits, the time and the reading are stored; the answer says who runs.
@@ -123,23 +102,22 @@ impl Block {
         time: u64,
         reading: u32,
         moves: u32,
-        margin: Margin,
+        margin: Option<i64>,
     ) -> Called
         ensures { result ≡ accepted_as self ready time reading moves margin }
     {
         let running = ready.running;
-        let now = Now {
+        self.ready = ready;
+        self.now = Now {
             clock: time,
             reading,
         };
-        self.ready = ready;
-        self.now = now;
         Called {
-            answer: Answer::Accepted {
+            answer: Ok(Accepted {
                 running,
                 moves,
                 margin,
-            },
+            }),
             block: self,
         }
     }

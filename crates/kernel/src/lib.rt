@@ -24,21 +24,23 @@
 
 ghost use Rattle.std.specs.Prelude.{◌≡◌};
 ghost use Rattle.laws.specs.Words.{Decides};
-ghost use Rattle.rules.specs.Numbers.{number_of};
 ghost use Rattle.rules.specs.Calls.{Release, Done, Clock};
+ghost use Rattle.clock.specs.Advance.{clock_refusal_in};
 ghost use Rattle.kernel.specs.Block.{Whole};
 ghost use Rattle.kernel.specs.Answers.{refusal_in};
 ghost use Rattle.kernel.specs.Calls.{Gives};
 
+use clock::ClockRefusal;
 use jobs::{Job, Tasks};
 use ready::Ready;
+use refusals::Refused;
 use table::PLACES;
 use whole::is_whole;
 
 // What a user of the calls names beside them, so that it is named by one crate.
 pub use levels::{Plan, Point};
-pub use lists::Who;
-pub use table::{Level, MOST, Table, Task, TaskNo, Verdict};
+pub use lists::task_number;
+pub use table::{Level, MOST, Table, TableRefusal, Task, TaskNo};
 
 pub mod start; // start
 mod tests; // tests 5 to 10
@@ -60,14 +62,7 @@ pub struct Block {
     pub now: Now,
 }
 
-// "for done the margin, deadline less the time of the call, a signed number"
-#[derive(Clone, Copy)]
-pub enum Margin {
-    None,
-    Ticks(i64),
-}
-
-// Why a call is refused.
+// Why a call, a listing or a plan is refused.
 #[derive(Clone, Copy)]
 pub enum Refusal {
     NotWhole,
@@ -77,13 +72,13 @@ pub enum Refusal {
     TaskActive,
     TooSoon,
     NotRunning,
+    BufferTooShort,
 }
 
-impl Refusal {
-    // "No."
-    pub fn number(self) -> u8
-        ensures { result ≡ number_of (refusal_in self) }
-    {
+impl Refused for Refusal {
+    ghost means = { refusal_in };
+
+    fn number(self) -> u8 {
         match self {
             Refusal::CounterWentBack => refusals::COUNTER_WENT_BACK,
             Refusal::ClockFull => refusals::CLOCK_FULL,
@@ -91,26 +86,41 @@ impl Refusal {
             Refusal::TaskActive => refusals::TASK_ACTIVE,
             Refusal::TooSoon => refusals::TOO_SOON,
             Refusal::NotRunning => refusals::NOT_RUNNING,
+            Refusal::BufferTooShort => refusals::BUFFER_TOO_SHORT,
             Refusal::NotWhole => refusals::NOT_WHOLE,
+        }
+    }
+
+    fn given(self) -> usize {
+        0
+    }
+}
+
+// Tests 5 and 6 of the clock are tests of each call.
+impl From<ClockRefusal> for Refusal {
+    fn from(refusal: ClockRefusal) -> Refusal
+        ensures { refusal_in result ≡ clock_refusal_in refusal }
+    {
+        match refusal {
+            ClockRefusal::CounterWentBack => Refusal::CounterWentBack,
+            ClockRefusal::ClockFull => Refusal::ClockFull,
         }
     }
 }
 
-// "An accepted answer holds who runs: nobody, or one task; the moves of the call; and for done the margin"
+// "An accepted answer holds who runs: nobody, or one task; the moves of the call; and for done the margin", deadline less the time of the
+// call, a signed number.
 #[derive(Clone, Copy)]
-pub enum Answer {
-    Accepted {
-        running: Who,
-        moves: u32,
-        margin: Margin,
-    },
-    Refused(Refusal),
+pub struct Accepted {
+    pub running: Option<TaskNo>,
+    pub moves: u32,
+    pub margin: Option<i64>,
 }
 
 // What a call gives back.
 #[derive(Clone, Copy)]
 pub struct Called {
-    pub answer: Answer,
+    pub answer: Result<Accepted, Refusal>,
     pub block: Block,
 }
 
@@ -119,14 +129,11 @@ impl Block {
     pub fn whole(self) -> bool
         ensures { Decides result (Whole self) }
     {
-        let tasks = self.tasks;
-        let jobs = self.jobs;
-        let ready = self.ready;
-        is_whole(tasks, jobs, ready, self.now.clock)
+        is_whole(self.tasks, self.jobs, self.ready, self.now.clock)
     }
 
     // "release: the task's job becomes active."
-    pub fn release(mut self, reading: u32, task: TaskNo) -> Called
+    pub fn release(self, reading: u32, task: TaskNo) -> Called
         ensures { Gives self (Release reading task.0) result }
     {
         if !self.whole() {
@@ -136,7 +143,7 @@ impl Block {
     }
 
     // "done: the running job ends."
-    pub fn done(mut self, reading: u32, task: TaskNo) -> Called
+    pub fn done(self, reading: u32, task: TaskNo) -> Called
         ensures { Gives self (Done reading task.0) result }
     {
         if !self.whole() {
@@ -146,7 +153,7 @@ impl Block {
     }
 
     // "clock: nothing more."
-    pub fn clock(mut self, reading: u32) -> Called
+    pub fn clock(self, reading: u32) -> Called
         ensures { Gives self (Clock reading) result }
     {
         if !self.whole() {

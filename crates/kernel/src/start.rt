@@ -3,16 +3,16 @@ ghost use Rattle.kernel.specs.Start.{Fresh, no_tasks, Starts};
 ghost use Rattle.std.specs.Prelude.{◌≡◌};
 
 use super::{Block, Now};
-use jobs::{Job, Last, Tasks};
+use jobs::{Job, Tasks};
 use levels::rising;
-use lists::{Lists, Who};
+use lists::Lists;
 use ready::Ready;
-use table::{MOST, PLACES, Table, Task, Verdict, table_test};
+use table::{MOST, PLACES, Table, TableRefusal, Task, table_test};
 
-// What start gives back: the table's verdict, and a block.
+// What start gives back: whether the table is sound, and a block, whether it is or not.
 #[derive(Clone, Copy)]
 pub struct Started {
-    pub verdict: Verdict,
+    pub verdict: Result<(), TableRefusal>,
     pub block: Block,
 }
 
@@ -21,22 +21,22 @@ pub struct Started {
 pub fn start(table: Table, reading: u32) -> Started
     ensures { Starts table reading result }
 {
-    let verdict = table_test(table);
-    if let Verdict::Sound = verdict {
-        let copy = rising(table);
-        let tasks = Tasks {
-            table,
-            rising: copy,
-        };
-        let block = fresh(tasks, reading);
-        return Started {
-            verdict: Verdict::Sound,
-            block,
-        };
+    match table_test(table) {
+        Ok(()) => {
+            let tasks = Tasks {
+                table,
+                rising: rising(table),
+            };
+            Started {
+                verdict: Ok(()),
+                block: fresh(tasks, reading),
+            }
+        }
+        Err(refusal) => Started {
+            verdict: Err(refusal),
+            block: fresh(no_tasks(), 0),
+        },
     }
-    let tasks = no_tasks();
-    let block = fresh(tasks, 0);
-    Started { verdict, block }
 }
 
 // A block where nothing has happened yet.
@@ -45,12 +45,12 @@ fn fresh(tasks: Tasks, reading: u32) -> Block
 {
     let none = Job {
         active: false,
-        last: Last::Never,
+        last: None,
     };
     let jobs = [none; PLACES];
     let lists = Lists::empty();
     let ready = Ready {
-        running: Who::Nobody,
+        running: None,
         lists,
     };
     let now = Now { clock: 0, reading };

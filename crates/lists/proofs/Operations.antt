@@ -16,12 +16,12 @@ use Rattle.rules.specs.Calls.{to_front, to_end, front_of}
 use Rattle.table.specs.declared.TaskNo.{TaskNo}
 use Rattle.lists.specs.declared.Lists.{Lists}
 use Rattle.lists.specs.declared.Popped.{Popped}
-use Rattle.lists.specs.declared.Who.TheVariants as Who
 use Rattle.lists.specs.Links.{Numbered, Once, Sized, nobody, at, front, Stores}
 use Rattle.lists.specs.Answers.{who_in, MayEnter, PopsFrom, front_moved}
 use Rattle.lists.proofs.Links.{front_empty, front_most, back_most, push_front_first, push_front_more, push_back_first, push_back_more, pop_last, pop_more}
 use Rattle.lists.proofs.Storage.{at_set, stored_by, stores}
 use Rattle.lists.proofs.Determined.{enters_absent}
+use Rattle.std.specs.Prelude.{None, Some}
 
 abbrev entry : List TaskNo → ℕ → TaskNo
 entry a i = get_or a i nobody
@@ -68,7 +68,7 @@ module _ {s : Lists} {ls : ℕ → List ℕ} (sz : Sized s) (st : Stores s ls) (
 -- ---- pops
 
 module _ {s : Lists} {ls : ℕ → List ℕ} (sz : Sized s) (st : Stores s ls) (l : ℕ) (level : Numbered l) where
-  pub popped_none : at s.first l ≡ 0 → PopsFrom ls l (record { front = Who.Nobody; lists = s })
+  pub popped_none : at s.first l ≡ 0 → PopsFrom ls l (record { front = None; lists = s })
   popped_none z =
       let none : ls l ≡ [] = front_empty (ls l) (st.waits.task l) (sym (st.first l) ∙ z) in
       record {
@@ -85,7 +85,7 @@ module _ {s : Lists} {ls : ℕ → List ℕ} (sz : Sized s) (st : Stores s ls) (
       go (a ∷ q) e = (q, ap (λ (i : ℕ). i ∷ q) (sym (st.first l ∙ ap front e)))
 
   module _ (z : at s.first l ≡ 0 → ⊥) where
-    gives : (r : Lists) → Stores r (put ls l (taken z).0) → PopsFrom ls l (record { front = Who.One (entry s.first l); lists = r })
+    gives : (r : Lists) → Stores r (put ls l (taken z).0) → PopsFrom ls l (record { front = Some (entry s.first l); lists = r })
     gives r h =
         record {
           front = ap front_of (sym (taken z).1);
@@ -94,7 +94,7 @@ module _ {s : Lists} {ls : ℕ → List ℕ} (sz : Sized s) (st : Stores s ls) (
 
     pub popped_last : (r : ℕ) → at s.next (at s.first l) ≡ 0 → BitMade s.map (l - 1) 0 r
         → PopsFrom ls l (record {
-          front = Who.One (entry s.first l);
+          front = Some (entry s.first l);
           lists = record {
             first = set s.first l (entry s.next (at s.first l));
             last = set s.last l nobody;
@@ -111,7 +111,7 @@ module _ {s : Lists} {ls : ℕ → List ℕ} (sz : Sized s) (st : Stores s ls) (
 
     pub popped_more : (at s.next (at s.first l) ≡ 0 → ⊥)
         → PopsFrom ls l (record {
-          front = Who.One (entry s.first l);
+          front = Some (entry s.first l);
           lists = record {
             first = set s.first l (entry s.next (at s.first l));
             last = s.last;
@@ -126,31 +126,31 @@ module _ {s : Lists} {ls : ℕ → List ℕ} (sz : Sized s) (st : Stores s ls) (
         (pop_more (stored_by st) l level (at s.first l) (taken z).0 (taken z).1 y))
 
   -- who is in front
-  pub front_nobody : at s.first l ≡ 0 → who_in Who.Nobody ≡ front_of (ls l)
+  pub front_nobody : at s.first l ≡ 0 → who_in None ≡ front_of (ls l)
   front_nobody z = (popped_none z).front
 
-  pub front_one : (at s.first l ≡ 0 → ⊥) → who_in (Who.One (entry s.first l)) ≡ front_of (ls l)
+  pub front_one : (at s.first l ≡ 0 → ⊥) → who_in (Some (entry s.first l)) ≡ front_of (ls l)
   front_one z = ap front_of (sym (taken z).1)
 
 -- ---- promotion's inner step
 
 module _ {s : Lists} {ls : ℕ → List ℕ} (st : Stores s ls) (l : ℕ) (r : Popped) (pop : PopsFrom ls l r) where
   -- what a pop that gave a job tells of the list
-  split : (t : TaskNo) → r.front ≡ Who.One t → (q : List ℕ) × (ls l ≡ t.0 ∷ q)
+  split : (t : TaskNo) → r.front ≡ Some t → (q : List ℕ) × (ls l ≡ t.0 ∷ q)
   split t e = go (ls l) (sym pop.front ∙ ap who_in e)
     where
       go : (v : List ℕ) → front_of v ≡ One t.0 → (q : List ℕ) × (v ≡ t.0 ∷ q)
       go [] f = clash cc
       go (a ∷ q) f = let same : a ≡ t.0 = cc in (q, ap (λ (i : ℕ). i ∷ q) same)
 
-  pub moved_none : (to : ℕ) → r.front ≡ Who.Nobody → Stores r.lists (front_moved ls l to (ls l))
+  pub moved_none : (to : ℕ) → r.front ≡ None → Stores r.lists (front_moved ls l to (ls l))
   moved_none to e = go (ls l) refl (sym pop.front ∙ ap who_in e)
     where
       go : (v : List ℕ) → ls l ≡ v → front_of v ≡ Nobody → Stores r.lists (front_moved ls l to v)
       go [] f g = subst (Stores r.lists) (put_same ls l (behind (ls l)) (f ∙ ap behind (sym f))) pop.stores
       go (a ∷ q) f g = clash cc
 
-  pub moved_one : (t : TaskNo) (to : ℕ) (after : Lists) → r.front ≡ Who.One t → Stores after (to_end (put ls l (behind (ls l))) to t.0)
+  pub moved_one : (t : TaskNo) (to : ℕ) (after : Lists) → r.front ≡ Some t → Stores after (to_end (put ls l (behind (ls l))) to t.0)
       → Stores after (front_moved ls l to (ls l))
   moved_one t to after e h =
       let p = split t e in
@@ -158,7 +158,7 @@ module _ {s : Lists} {ls : ℕ → List ℕ} (st : Stores s ls) (l : ℕ) (r : P
       (subst (λ (v : List ℕ). Stores after (to_end (put ls l v) to t.0)) (ap behind p.1) h)
 
   -- who was popped may enter any list
-  pub popped_enters : (t : TaskNo) (to : ℕ) → r.front ≡ Who.One t → Numbered to → MayEnter r.lists to t.0
+  pub popped_enters : (t : TaskNo) (to : ℕ) → r.front ≡ Some t → Numbered to → MayEnter r.lists to t.0
   popped_enters t to e n =
       let p = split t e in
       let here : In t.0 (ls l) = subst (In t.0) (sym p.1) (inl refl) in

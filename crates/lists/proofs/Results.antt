@@ -10,24 +10,24 @@ use Rattle.rules.specs.Table.{most}
 use Rattle.rules.specs.State.{Running, Nobody, One}
 use Rattle.lists.specs.declared.Lists.{Lists}
 use Rattle.lists.specs.declared.Popped.{Popped}
-use Rattle.lists.specs.declared.Who.{Who}
-use Rattle.lists.specs.declared.Who.TheVariants as Who
 use Rattle.lists.specs.Links.{Sized, nobody, Stores}
 use Rattle.lists.specs.Answers.{who_in, PopsFrom, Holds}
 use Rattle.lists.proofs.Determined.{arrays_one}
 use Rattle.lists.proofs.Operations.{stores_empty}
+use Rattle.std.specs.Prelude.{None, Option, Some}
+use Rattle.table.specs.declared.TaskNo.{TaskNo}
 
 -- an answer that says the same is the same
-who_said : Running → Who
-who_said Nobody = Who.Nobody
-who_said (One k) = Who.One (record { 0 = k })
+who_said : Running → Option TaskNo
+who_said Nobody = None
+who_said (One k) = Some (record { 0 = k })
 
-who_same : (a : Who) → who_said (who_in a) ≡ a
+who_same : (a : Option TaskNo) → who_said (who_in a) ≡ a
 unfolding who_said
-who_same Who.Nobody = refl
-who_same (Who.One k) = refl
+who_same None = refl
+who_same (Some k) = refl
 
-pub who_one : (a b : Who) → who_in a ≡ who_in b → a ≡ b
+pub who_one : (a b : Option TaskNo) → who_in a ≡ who_in b → a ≡ b
 who_one a b e = sym (who_same a) ∙ ap who_said e ∙ who_same b
 
 -- `requires` says that there are lists; `ensures` speaks of any
@@ -43,11 +43,11 @@ module _ {s : Lists} (h : Holds s) where
   pop_result l a b sa sb p q =
       let c = p h.lists h.stores in
       let d = q h.lists h.stores in
-      ap₂ (λ (w : Who) (r : Lists). record { front = w; lists = r }) (who_one a.front b.front (c.front ∙ sym d.front))
+      ap₂ (λ (w : Option TaskNo) (r : Lists). record { front = w; lists = r }) (who_one a.front b.front (c.front ∙ sym d.front))
       (arrays_one sa sb c.stores d.stores)
 
   -- front
-  pub front_result : (f : (ℕ → List ℕ) → Running) (a b : Who)
+  pub front_result : (f : (ℕ → List ℕ) → Running) (a b : Option TaskNo)
       → ((ls : ℕ → List ℕ) → Stores s ls → who_in a ≡ f ls) → ((ls : ℕ → List ℕ) → Stores s ls → who_in b ≡ f ls) → a ≡ b
   front_result f a b p q = who_one a b (p h.lists h.stores ∙ sym (q h.lists h.stores))
 

@@ -1,16 +1,14 @@
 -- What the operations ask and answer, in lists.
-use Rattle.std.specs.Prelude.{ℕ, zero, suc, ◌+◌, ◌≤◌, ◌≡◌, List, [], ◌∷◌, length}
+use Rattle.std.specs.Prelude.{ℕ, zero, suc, ◌+◌, ◌≤◌, ◌≡◌, List, [], ◌∷◌, length, Option, None, Some}
 use Rattle.laws.specs.Words.{behind, put}
 use Rattle.rules.specs.State.{Running, Nobody, One}
 use Rattle.rules.specs.Calls.{to_end, front_of}
 use Rattle.rules.specs.Listing.{pairs_of, listing_bytes}
+use Rattle.table.specs.declared.Level.{Level}
+use Rattle.table.specs.declared.TaskNo.{TaskNo}
 use Rattle.lists.specs.declared.Lists.{Lists}
 use Rattle.lists.specs.declared.Stored.{Stored}
 use Rattle.lists.specs.declared.Popped.{Popped}
-use Rattle.lists.specs.declared.Who.{Who}
-use Rattle.lists.specs.declared.Who.TheVariants as Who
-use Rattle.lists.specs.declared.Occupied.{Occupied}
-use Rattle.lists.specs.declared.Occupied.TheVariants as Occupied
 use Rattle.lists.specs.Links.{Numbered, Absent, Stores}
 
 -- ---- answers
@@ -23,14 +21,14 @@ abbrev pub lists_of : Stored → Lists
 lists_of s = record { first = s.first; last = s.last; next = s.next; map = s.map }
 
 -- "nobody, or one task", as the rules say it
-abbrev pub who_in : Who → Running
-who_in Who.Nobody = Nobody
-who_in (Who.One k) = One k.0
+abbrev pub who_in : Option TaskNo → Running
+who_in None = Nobody
+who_in (Some k) = One k.0
 
 -- a level; nothing for 0, which is what the rules' `lowest` says where there is none
-abbrev pub occupied_at : ℕ → Occupied
-occupied_at zero = Occupied.Nothing
-occupied_at (suc l) = Occupied.At (record { 0 = suc l })
+abbrev pub occupied_at : ℕ → Option Level
+occupied_at zero = None
+occupied_at (suc l) = Some (record { 0 = suc l })
 
 -- what a pop at level l gives: the front job, and the lists without it
 pub record PopsFrom (ls : ℕ → List ℕ) (l : ℕ) (r : Popped) : Type 0 where

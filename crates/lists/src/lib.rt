@@ -17,7 +17,7 @@
 //      waiting, list_all                      a step for each level and each job
 //
 // Contracts speak of lists of numbers: whatever lists `ls` are stored, they say what is answered and which lists are stored afterwards.
-// The fields are private, so nothing above this crate names a link or a bit. All functions but empty, stored and of are inner forms: they
+// The fields are private, so nothing above this crate names a link or a bit. All functions but `empty` and the conversions from and to `Stored` are inner forms: they
 // require that the arrays store lists. `empty` makes such arrays, each operation keeps them so, and crate stored tests arrays that may
 // hold anything.
 #![tactic(auto)]
@@ -51,35 +51,19 @@ pub struct Stored {
     pub map: u64,
 }
 
-// "nobody, or one task"
-#[derive(Clone, Copy)]
-pub enum Who {
-    Nobody,
-    One(TaskNo),
-}
-
-impl Who {
-    // "0 nobody"
-    pub fn number(self) -> u8
-        ensures { result ≡ task_in (who_in self) }
-    {
-        match self {
-            Who::Nobody => 0,
-            Who::One(task) => task.0,
-        }
+// "0 nobody"
+pub fn task_number(who: Option<TaskNo>) -> u8
+    ensures { result ≡ task_in (who_in who) }
+{
+    match who {
+        None => 0,
+        Some(task) => task.0,
     }
-}
-
-// The level of an occupied list, where there is one.
-#[derive(Clone, Copy)]
-pub enum Occupied {
-    Nothing,
-    At(Level),
 }
 
 #[derive(Clone, Copy)]
 pub struct Popped {
-    pub front: Who,
+    pub front: Option<TaskNo>,
     pub lists: Lists,
 }
 
@@ -99,37 +83,35 @@ fn without_bit(map: u64, level: Level) -> u64
     map & !(1u64 << (level.0 - 1))
 }
 
-impl Lists {
-    // The arrays and the map, to be kept elsewhere.
-    pub fn stored(self) -> Stored
-        ensures { result ≡ stored_of self }
+// The arrays and the map, to be kept elsewhere.
+impl From<Lists> for Stored {
+    fn from(lists: Lists) -> Stored
+        ensures { result ≡ stored_of lists }
     {
-        let first = self.first;
-        let last = self.last;
-        let next = self.next;
         Stored {
-            first,
-            last,
-            next,
-            map: self.map,
+            first: lists.first,
+            last: lists.last,
+            next: lists.next,
+            map: lists.map,
         }
     }
+}
 
-    // The struct again, from arrays and a map that may hold anything; crate stored tells whether they store lists.
-    pub fn of(stored: Stored) -> Lists
+// The lists again, from arrays and a map that may hold anything; crate stored tells whether they store lists.
+impl From<Stored> for Lists {
+    fn from(stored: Stored) -> Lists
         ensures { result ≡ lists_of stored }
     {
-        let first = stored.first;
-        let last = stored.last;
-        let next = stored.next;
         Lists {
-            first,
-            last,
-            next,
+            first: stored.first,
+            last: stored.last,
+            next: stored.next,
             map: stored.map,
         }
     }
+}
 
+impl Lists {
     // All lists empty.
     pub fn empty() -> Lists
         ensures { Stores result (λ l. []) }
@@ -188,7 +170,7 @@ impl Lists {
         let x = head.0 as usize;
         if x == 0 {
             return Popped {
-                front: Who::Nobody,
+                front: None,
                 lists: self,
             };
         }
@@ -200,12 +182,12 @@ impl Lists {
             self.last[l] = nobody;
             self.map = without_bit(self.map, level);
             return Popped {
-                front: Who::One(head),
+                front: Some(head),
                 lists: self,
             };
         }
         Popped {
-            front: Who::One(head),
+            front: Some(head),
             lists: self,
         }
     }
@@ -219,40 +201,40 @@ impl Lists {
         let front = popped.front;
         let rest = popped.lists;
         match front {
-            Who::Nobody => rest,
-            Who::One(task) => rest.push_back(to, task),
+            None => rest,
+            Some(task) => rest.push_back(to, task),
         }
     }
 
     // The front job of the list of the level, or nobody.
-    pub fn front(self, level: Level) -> Who
+    pub fn front(self, level: Level) -> Option<TaskNo>
         requires { HoldsAt self level.0 }
         ensures { (ls : ℕ → List ℕ) → Stores self ls → who_in result ≡ front_of (ls level.0) }
     {
         let l = level.0 as usize;
         let head = self.first[l];
         if head.0 == 0 {
-            return Who::Nobody;
+            return None;
         }
-        Who::One(head)
+        Some(head)
     }
 
     // The lowest level, from this one up, whose list holds a job.
-    pub fn lowest_from(self, level: Level) -> Occupied
+    pub fn lowest_from(self, level: Level) -> Option<Level>
         requires { HoldsAt self level.0 }
         ensures { (ls : ℕ → List ℕ) → Stores self ls → result ≡ occupied_at (lowest ls (suc most - level.0) level.0) }
     {
         let above = self.map >> (level.0 - 1);
         if above == 0 {
-            return Occupied::Nothing;
+            return None;
         }
         let zeros = u64::trailing_zeros(above) as u8;
         let lowest = zeros + level.0;
-        Occupied::At(Level(lowest))
+        Some(Level(lowest))
     }
 
     // "the lowest-numbered list that holds one"
-    pub fn lowest(self) -> Occupied
+    pub fn lowest(self) -> Option<Level>
         requires { Holds self }
         ensures { (ls : ℕ → List ℕ) → Stores self ls → result ≡ occupied_at (lowest ls most 1) }
     {

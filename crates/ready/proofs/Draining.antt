@@ -17,12 +17,11 @@ use Rattle.lists.proofs.Walks.{list_held}
 use Rattle.jobs.specs.declared.Job.{Job}
 use Rattle.jobs.specs.declared.Tasks.{Tasks}
 use Rattle.jobs.specs.Kept.{levels_at, Levelled}
-use Rattle.ready.specs.declared.promotion.Next.{Next}
-use Rattle.ready.specs.declared.promotion.Next.TheVariants as Next
 use Rattle.ready.specs.Promote.{front_goes, Drainable, DrainedTo}
 use Rattle.jobs.proofs.Keeping.{levels_low}
 use Rattle.ready.proofs.Fronts.{stays_drained, Going, goes_going, gone, gone_moved, gone_drained, gone_leaving, gone_shorter}
 use Rattle.ready.proofs.Placing.{moved_placed, promotable_placed, placed_promotable}
+use Rattle.std.specs.Prelude.{None, Option, Some}
 
 -- ---- of lists ls that were stored at first
 
@@ -36,12 +35,12 @@ drains_starts : {new : ℕ → ℕ} {l : ℕ} {s : Lists} (ls : ℕ → List ℕ
 drains_starts ls st = record { lists = ls; stores = st; same = refl; left = omega arith }
 
 module _ {new : ℕ → ℕ} {l : ℕ} {ls : ℕ → List ℕ} {now : Lists} {moves : ℕ} (w : DrainsTo new l ls now moves) where
-  drains_ends : Next.Stays ≡ front_goes new l (w.lists l) → DrainedTo new l ls (record { lists = now; moves = moves })
+  drains_ends : None ≡ front_goes new l (w.lists l) → DrainedTo new l ls (record { lists = now; moves = moves })
   drains_ends e =
       let end = stays_drained new l (w.lists l) e w.lists in
       record { stores = subst (Stores now) (sym end.0 ∙ w.same) w.stores; moves = omega (arith, end.1, w.left) }
 
-  drains_turns : (to : Level) → Next.Goes to ≡ front_goes new l (w.lists l) → {next : Lists} → Stores next (front_moved w.lists l to.0 (w.lists l))
+  drains_turns : (to : Level) → Some to ≡ front_goes new l (w.lists l) → {next : Lists} → Stores next (front_moved w.lists l to.0 (w.lists l))
       → DrainsTo new l ls next (moves + 1)
   drains_turns to e {next} st =
       let g = goes_going new l to (w.lists l) e in
@@ -76,11 +75,11 @@ draining_all {l = l} {now = now} w h ls st =
     drains_all d (sym (list_held d.stores l) ∙ long_none (list_at now l) (omega (arith, w.few)))
 
 module _ {tasks : Tasks} {jobs : List Job} {time l : ℕ} {before now : Lists} {moves : ℕ} (w : Draining tasks jobs time l before now moves)
-    {r : Next} (said : (ls : ℕ → List ℕ) → Stores now ls → r ≡ front_goes (levels_at tasks jobs time) l (ls l)) where
-  pub draining_ends : r ≡ Next.Stays → (ls : ℕ → List ℕ) → Stores before ls → DrainedTo (levels_at tasks jobs time) l ls (record { lists = now; moves = moves })
+    {r : Option Level} (said : (ls : ℕ → List ℕ) → Stores now ls → r ≡ front_goes (levels_at tasks jobs time) l (ls l)) where
+  pub draining_ends : r ≡ None → (ls : ℕ → List ℕ) → Stores before ls → DrainedTo (levels_at tasks jobs time) l ls (record { lists = now; moves = moves })
   draining_ends e ls st = let d = w.target ls st in drains_ends d (sym e ∙ said d.lists d.stores)
 
-  module _ (to : Level) (e : r ≡ Next.Goes to) where
+  module _ (to : Level) (e : r ≡ Some to) where
     abbrev new : ℕ → ℕ
     new = levels_at tasks jobs time
 

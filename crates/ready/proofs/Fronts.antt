@@ -16,28 +16,25 @@ use Rattle.rules.specs.Promotion.{drained, leaving}
 use Rattle.table.specs.declared.Level.{Level}
 use Rattle.table.specs.declared.TaskNo.{TaskNo}
 use Rattle.lists.specs.declared.Lists.{Lists}
-use Rattle.lists.specs.declared.Who.{Who}
-use Rattle.lists.specs.declared.Who.TheVariants as Who
 use Rattle.lists.specs.Answers.{who_in, front_moved}
 use Rattle.jobs.specs.declared.Job.{Job}
 use Rattle.jobs.specs.declared.Tasks.{Tasks}
-use Rattle.ready.specs.declared.promotion.Next.{Next}
-use Rattle.ready.specs.declared.promotion.Next.TheVariants as Next
 use Rattle.ready.specs.Promote.{goes_to, front_goes, Leaves, Drainable}
 use Rattle.ready.proofs.Placing.{moved_rest}
+use Rattle.std.specs.Prelude.{None, Option, Some}
 
 -- ---- told by whether it has left its level
 
 module _ (l to : ℕ) {left : Bool} (told : left ≡ ltb to l) where
-  pub not_left_stays : left ≡ false → Next.Stays ≡ goes_to l to
+  pub not_left_stays : left ≡ false → None ≡ goes_to l to
   not_left_stays f = let e : ltb to l ≡ false = sym told ∙ f in rw e
 
-  pub left_goes : (level : Level) → left ≡ true → level.0 ≡ to → Next.Goes level ≡ goes_to l to
-  left_goes level t e = let g : ltb to l ≡ true = sym told ∙ t in rw g (ap (λ (i : ℕ). Next.Goes (record { 0 = i })) e)
+  pub left_goes : (level : Level) → left ≡ true → level.0 ≡ to → Some level ≡ goes_to l to
+  left_goes level t e = let g : ltb to l ≡ true = sym told ∙ t in rw g (ap (λ (i : ℕ). Some (record { 0 = i })) e)
 
 -- ---- told by who is in front
 
-pub front_leaves : {tasks : Tasks} {jobs : List Job} {time : ℕ} {s : Lists} {l : ℕ} (d : Drainable tasks jobs time s l) (k : TaskNo) {who : Who} → who ≡ Who.One k
+pub front_leaves : {tasks : Tasks} {jobs : List Job} {time : ℕ} {s : Lists} {l : ℕ} (d : Drainable tasks jobs time s l) (k : TaskNo) {who : Option TaskNo} → who ≡ Some k
     → who_in who ≡ front_of (d.all.ls l) → Leaves tasks jobs time l k.0
 front_leaves {tasks} {jobs} {time} {s} {l} d k e said = go (d.all.ls l) refl (ap who_in (sym e) ∙ said)
   where
@@ -49,14 +46,14 @@ front_leaves {tasks} {jobs} {time} {s} {l} d k e said = go (d.all.ls l) refl (ap
         record { known = d.all.known l k.0 m; low = d.low; high = d.all.high l k.0 m }
 
 module _ (new : ℕ → ℕ) (l : ℕ) where
-  pub nobody_stays : {who : Who} (q : List ℕ) → who ≡ Who.Nobody → who_in who ≡ front_of q → Next.Stays ≡ front_goes new l q
+  pub nobody_stays : {who : Option TaskNo} (q : List ℕ) → who ≡ None → who_in who ≡ front_of q → None ≡ front_goes new l q
   nobody_stays q e said = go q (ap who_in (sym e) ∙ said)
     where
-      go : (q : List ℕ) → Nobody ≡ front_of q → Next.Stays ≡ front_goes new l q
+      go : (q : List ℕ) → Nobody ≡ front_of q → None ≡ front_goes new l q
       go [] f = refl
       go (x ∷ q) f = clash cc
 
-  pub one_goes : {who : Who} {r : Next} (k : TaskNo) (q : List ℕ) → who ≡ Who.One k → who_in who ≡ front_of q → r ≡ goes_to l (new k.0) → r ≡ front_goes new l q
+  pub one_goes : {who : Option TaskNo} {r : Option Level} (k : TaskNo) (q : List ℕ) → who ≡ Some k → who_in who ≡ front_of q → r ≡ goes_to l (new k.0) → r ≡ front_goes new l q
   one_goes {who} {r} k q e said answer = go q (ap who_in (sym e) ∙ said)
     where
       go : (q : List ℕ) → One k.0 ≡ front_of q → r ≡ front_goes new l q
@@ -65,12 +62,12 @@ module _ (new : ℕ → ℕ) (l : ℕ) where
 
   -- ---- one that stays: the list is drained
 
-  pub stays_drained : (q : List ℕ) → Next.Stays ≡ front_goes new l q → (lists : ℕ → List ℕ) → (drained new l lists q ≡ lists) × (leaving new l q ≡ 0)
+  pub stays_drained : (q : List ℕ) → None ≡ front_goes new l q → (lists : ℕ → List ℕ) → (drained new l lists q ≡ lists) × (leaving new l q ≡ 0)
   unfolding drained leaving
   stays_drained [] e lists = (refl, refl)
   stays_drained (x ∷ q) e lists = go (ltb (new x) l) e
     where
-      go : (b : Bool) → Next.Stays ≡ pick b (Next.Goes (record { 0 = new x })) Next.Stays
+      go : (b : Bool) → None ≡ pick b (Some (record { 0 = new x })) None
           → (pick b (drained new l (to_end (put lists l q) (new x) x) q) lists ≡ lists) × (pick b (1 + leaving new l q) 0 ≡ 0)
       go true f = clash cc
       go false f = (refl, refl)
@@ -94,11 +91,11 @@ module _ (new : ℕ → ℕ) (l : ℕ) where
     pub level : to ≡ new task
     pub lower : to < l
 
-  pub goes_going : (to : Level) (q : List ℕ) → Next.Goes to ≡ front_goes new l q → Going to.0 q
+  pub goes_going : (to : Level) (q : List ℕ) → Some to ≡ front_goes new l q → Going to.0 q
   goes_going to [] e = clash cc
   goes_going to (x ∷ q) e = go (ltb (new x) l) refl e
     where
-      go : (b : Bool) → ltb (new x) l ≡ b → Next.Goes to ≡ pick b (Next.Goes (record { 0 = new x })) Next.Stays → Going to.0 (x ∷ q)
+      go : (b : Bool) → ltb (new x) l ≡ b → Some to ≡ pick b (Some (record { 0 = new x })) None → Going to.0 (x ∷ q)
       go true t f =
           let same : to ≡ record { 0 = new x } = cc in
           let level : to.0 ≡ new x = ap (λ (i : Level). i.0) same in

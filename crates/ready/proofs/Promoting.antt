@@ -9,8 +9,6 @@ use Rattle.rules.specs.Calls.{lowest}
 use Rattle.rules.specs.Promotion.{drained, promoted, leaving, leaving_by}
 use Rattle.table.specs.declared.Level.{Level}
 use Rattle.lists.specs.declared.Lists.{Lists}
-use Rattle.lists.specs.declared.Occupied.{Occupied}
-use Rattle.lists.specs.declared.Occupied.TheVariants as Occupied
 use Rattle.lists.specs.Links.{Stores}
 use Rattle.lists.specs.Answers.{occupied_at, HoldsAt}
 use Rattle.lists.proofs.Few.{list_few}
@@ -22,6 +20,7 @@ use Rattle.ready.specs.Promote.{Promotable, Drainable, DrainedTo, PromotedTo}
 use Rattle.lists.proofs.LowestLevel.{Clear, nothing_from, level_from}
 use Rattle.ready.proofs.Fronts.{leaving_le}
 use Rattle.ready.proofs.Placing.{drained_placed, promotable_placed, placed_promotable}
+use Rattle.std.specs.Prelude.{None, Option, Some}
 
 -- ---- the lists from l up to before `end`
 
@@ -91,7 +90,7 @@ module _ {new : ℕ → ℕ} {ls : ℕ → List ℕ} {now : Lists} {moves l : �
   promotes_ends h = ended (all_passed new (suc most) l w.lists h)
 
   -- none of those that are left holds a job
-  promotes_stops : 1 ≤ l → l ≤ suc most → Occupied.Nothing ≡ occupied_at (lowest w.lists (suc most - l) l) → PromotedTo new ls (record { lists = now; moves = moves })
+  promotes_stops : 1 ≤ l → l ≤ suc most → None ≡ occupied_at (lowest w.lists (suc most - l) l) → PromotedTo new ls (record { lists = now; moves = moves })
   promotes_stops low high e =
       let none = nothing_from w.lists l high low e in
       let passed = empty_passed new (suc most) w.lists (suc most - l) l (suc most) (omega arith) (omega arith) none.1 in
@@ -99,7 +98,7 @@ module _ {new : ℕ → ℕ} {ls : ℕ → List ℕ} {now : Lists} {moves l : �
       ended (passed.0 ∙ over.0, passed.1 ∙ over.1)
 
   -- the lowest of them has its turn
-  promotes_turns : l ≤ suc most → (level : Level) → Occupied.At level ≡ occupied_at (lowest w.lists (suc most - l) l)
+  promotes_turns : l ≤ suc most → (level : Level) → Some level ≡ occupied_at (lowest w.lists (suc most - l) l)
       → (r : Promoted) → DrainedTo new level.0 w.lists r → PromotesTo new ls r.lists (moves + r.moves) (level.0 + 1)
   promotes_turns high level e r d =
       let at = level_from w.lists l high level e in
@@ -134,13 +133,13 @@ module _ {tasks : Tasks} {jobs : List Job} {time : ℕ} {before now : Lists} {mo
   pub promoting_asks : l ≤ most → HoldsAt now l
   promoting_asks h = record { lists = w.able.ls; stores = w.able.stores; level = record { low = omega (arith, w.low); high = h } }
 
-  module _ {r : Occupied} (said : (ls : ℕ → List ℕ) → Stores now ls → r ≡ occupied_at (lowest ls (suc most - l) l)) where
-    pub promoting_stops : r ≡ Occupied.Nothing → (ls : ℕ → List ℕ) → Stores before ls → PromotedTo (levels_at tasks jobs time) ls (record { lists = now; moves = moves })
+  module _ {r : Option Level} (said : (ls : ℕ → List ℕ) → Stores now ls → r ≡ occupied_at (lowest ls (suc most - l) l)) where
+    pub promoting_stops : r ≡ None → (ls : ℕ → List ℕ) → Stores before ls → PromotedTo (levels_at tasks jobs time) ls (record { lists = now; moves = moves })
     promoting_stops e ls st =
         let p = w.target ls st in
         promotes_stops p (omega (arith, w.low)) w.high (sym e ∙ said p.lists p.stores)
 
-    module _ (level : Level) (e : r ≡ Occupied.At level) where
+    module _ (level : Level) (e : r ≡ Some level) where
       pub promoting_level : (l ≤ level.0) × (level.0 ≤ most)
       promoting_level = let at = level_from w.able.ls l w.high level (sym e ∙ said w.able.ls w.able.stores) in (at.0, at.1)
 

@@ -5,7 +5,6 @@ use Prim.Native.Nat.{ℕ}
 use Rattle.rules.specs.State as Rules
 use Rattle.rules.specs.Calls.{met_by}
 use Rattle.lists.specs.declared.Lists.{Lists}
-use Rattle.lists.specs.declared.Who.{Who}
 use Rattle.lists.specs.Links.{Sized, Stores}
 use Rattle.lists.specs.Answers.{Holds}
 use Rattle.lists.proofs.Walks.{list_held}
@@ -14,9 +13,11 @@ use Rattle.lists.proofs.Results.{who_one}
 use Rattle.ready.specs.declared.Ready.{Ready}
 use Rattle.ready.specs.declared.Releveled.{Releveled}
 use Rattle.ready.specs.declared.promotion.Promoted.{Promoted}
-use Rattle.ready.specs.declared.promotion.Next.{Next}
 use Rattle.ready.specs.Keep.{ready_in, Keeps, Keeping, Becomes, Relevels}
 use Rattle.ready.specs.Promote.{front_goes, DrainedTo, PromotedTo}
+use Rattle.std.specs.Prelude.{Option}
+use Rattle.table.specs.declared.TaskNo.{TaskNo}
+use Rattle.table.specs.declared.Level.{Level}
 
 -- what is kept is what is read
 pub kept_is : {r : Ready} {x : Rules.Ready} → Keeps r x → ready_in r ≡ x
@@ -25,7 +26,7 @@ kept_is k = λ i. record { running = k.running i; lists = fun_ext (list_held k.s
 -- what keeps the same is the same
 pub keeps_one : {x : Rules.Ready} (a b : Ready) → Sized a.lists → Sized b.lists → Keeps a x → Keeps b x → a ≡ b
 keeps_one a b sa sb p q =
-    ap₂ (λ (w : Who) (s : Lists). record { running = w; lists = s }) (who_one a.running b.running (p.running ∙ sym q.running)) (arrays_one sa sb p.stores q.stores)
+    ap₂ (λ (w : Option TaskNo) (s : Lists). record { running = w; lists = s }) (who_one a.running b.running (p.running ∙ sym q.running)) (arrays_one sa sb p.stores q.stores)
 
 -- enter, leave
 pub becomes_result : {r : Ready} → Keeping r → (f : Rules.Ready → Rules.Ready) (a b : Ready) → Sized a.lists → Sized b.lists → Becomes r f a → Becomes r f b → a ≡ b
@@ -45,7 +46,7 @@ module _ {s : Lists} (h : Holds s) where
   met_result k l j n a b sa sb p q = keeps_one a b sa sb (p h.lists h.stores) (q h.lists h.stores)
 
   -- front_next
-  pub next_result : (new : ℕ → ℕ) (l : ℕ) (a b : Next) → ((ls : ℕ → List ℕ) → Stores s ls → a ≡ front_goes new l (ls l))
+  pub next_result : (new : ℕ → ℕ) (l : ℕ) (a b : Option Level) → ((ls : ℕ → List ℕ) → Stores s ls → a ≡ front_goes new l (ls l))
       → ((ls : ℕ → List ℕ) → Stores s ls → b ≡ front_goes new l (ls l)) → a ≡ b
   next_result new l a b p q = p h.lists h.stores ∙ sym (q h.lists h.stores)
 

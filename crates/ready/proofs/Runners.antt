@@ -16,9 +16,6 @@ use Rattle.table.specs.declared.TaskNo.{TaskNo}
 use Rattle.table.specs.Stored.{table_of}
 use Rattle.lists.specs.declared.Lists.{Lists}
 use Rattle.lists.specs.declared.Popped.{Popped}
-use Rattle.lists.specs.declared.Who.TheVariants as Who
-use Rattle.lists.specs.declared.Occupied.{Occupied}
-use Rattle.lists.specs.declared.Occupied.TheVariants as Occupied
 use Rattle.lists.specs.Links.{Stores}
 use Rattle.lists.specs.Answers.{who_in, occupied_at, PopsFrom, MayEnter}
 use Rattle.jobs.specs.declared.Job.{Job}
@@ -29,14 +26,15 @@ use Rattle.ready.specs.Keep.{Keeps, Keeping, Becomes, MayWait, Enterable}
 use Rattle.jobs.proofs.Keeping.{levels_low}
 use Rattle.lists.proofs.LowestLevel.{found_at, nothing_from, level_from}
 use Rattle.lists.proofs.Together.{lowest_levels}
+use Rattle.std.specs.Prelude.{None, Option, Some}
 
 -- ---- meeting the running job
 
 module _ (task : TaskNo) (l : ℕ) (other : TaskNo) (h : ℕ) (ls : ℕ → List ℕ) {s : Lists} where
-  pub met_lower : l < h → Stores s (to_front ls h other.0) → Keeps (record { running = Who.One task; lists = s }) (met_by task.0 l other.0 h ls)
+  pub met_lower : l < h → Stores s (to_front ls h other.0) → Keeps (record { running = Some task; lists = s }) (met_by task.0 l other.0 h ls)
   met_lower b st = rw (lt-ltb l h b) (record { running = refl; stores = st })
 
-  pub met_higher : h ≤ l → Stores s (to_end ls l task.0) → Keeps (record { running = Who.One other; lists = s }) (met_by task.0 l other.0 h ls)
+  pub met_higher : h ≤ l → Stores s (to_end ls l task.0) → Keeps (record { running = Some other; lists = s }) (met_by task.0 l other.0 h ls)
   met_higher b st = rw (le-ltb l h b) (record { running = refl; stores = st })
 
 -- ---- entering
@@ -55,16 +53,16 @@ module _ {tasks : Tasks} {jobs : List Job} {time : ℕ} where
       }
 
   -- the running job may wait
-  pub runner_waits : {r : Ready} {k : ℕ} (may : Enterable r tasks jobs time k) (other : TaskNo) → r.running ≡ Who.One other → MayWait tasks jobs time may.ready.lists other.0
+  pub runner_waits : {r : Ready} {k : ℕ} (may : Enterable r tasks jobs time k) (other : TaskNo) → r.running ≡ Some other → MayWait tasks jobs time may.ready.lists other.0
   runner_waits may other e = may.runner other.0 (sym may.keeps.running ∙ ap who_in e)
 
 module _ (level : ℕ → ℕ) {r : Ready} (task : TaskNo) where
-  pub enters_alone : r.running ≡ Who.Nobody → Becomes r (enter level task.0) (record { running = Who.One task; lists = r.lists })
+  pub enters_alone : r.running ≡ None → Becomes r (enter level task.0) (record { running = Some task; lists = r.lists })
   enters_alone e x keeps =
       let nobody : x.running ≡ Rules.Nobody = sym keeps.running ∙ ap who_in e in
       rw nobody (record { running = refl; stores = keeps.stores })
 
-  pub enters_meets : (other : TaskNo) (l h : ℕ) (met : Ready) → r.running ≡ Who.One other → l ≡ level task.0 → h ≡ level other.0
+  pub enters_meets : (other : TaskNo) (l h : ℕ) (met : Ready) → r.running ≡ Some other → l ≡ level task.0 → h ≡ level other.0
       → ((ls : ℕ → List ℕ) → Stores r.lists ls → Keeps met (met_by task.0 l other.0 h ls)) → Becomes r (enter level task.0) met
   enters_meets other l h met e a b meets x keeps =
       let one : x.running ≡ Rules.One other.0 = sym keeps.running ∙ ap who_in e in
@@ -76,13 +74,13 @@ leave_at : (lists : ℕ → List ℕ) (l : ℕ) → 1 ≤ l → leave_by lists l
 leave_at lists zero h = let z : ⊥ = omega arith in absurd z
 leave_at lists (suc l) h = refl
 
-module _ {r : Ready} {found : Occupied} (said : (ls : ℕ → List ℕ) → Stores r.lists ls → found ≡ occupied_at (lowest ls most 1)) where
-  pub leaves_nobody : found ≡ Occupied.Nothing → Becomes r leave (record { running = Who.Nobody; lists = r.lists })
+module _ {r : Ready} {found : Option Level} (said : (ls : ℕ → List ℕ) → Stores r.lists ls → found ≡ occupied_at (lowest ls most 1)) where
+  pub leaves_nobody : found ≡ None → Becomes r leave (record { running = None; lists = r.lists })
   leaves_nobody e x keeps =
       let none : lowest x.lists most 1 ≡ 0 = (nothing_from x.lists 1 (omega arith) (omega arith) (sym e ∙ said x.lists keeps.stores)).0 in
       rw (lowest_levels keeps.stores.waits, none) (record { running = refl; stores = keeps.stores })
 
-  module _ (level : Level) (e : found ≡ Occupied.At level) where
+  module _ (level : Level) (e : found ≡ Some level) where
     pub leaves_level : Keeping r → (1 ≤ level.0) × (level.0 ≤ most)
     leaves_level keeping =
         let at = level_from keeping.ready.lists 1 (omega arith) level (sym e ∙ said keeping.ready.lists keeping.keeps.stores) in

@@ -10,7 +10,7 @@ use Rattle.jobs.specs.declared.Job.{Job}
 use Rattle.jobs.specs.declared.Tasks.{Tasks}
 use Rattle.jobs.specs.Kept.{levels_at, Levelled}
 use Rattle.ready.specs.declared.Ready.{Ready}
-use Rattle.ready.specs.declared.Releveled.{Releveled}
+use Rattle.ready.specs.declared.promotion.Promoted.{Promoted}
 
 -- what is kept, where the arrays and the map store lists
 abbrev pub ready_in : Ready → Rules.Ready
@@ -26,8 +26,8 @@ abbrev pub Becomes : Ready → (Rules.Ready → Rules.Ready) → Ready → Type 
 Becomes a f b = (x : Rules.Ready) → Keeps a x → Keeps b (f x)
 
 -- whatever is kept, its lists are promoted, and as many jobs have moved as left a list
-pub record Relevels (new : ℕ → ℕ) (r : Ready) (after : Releveled) : Type 0 where
-  pub keeps : Becomes r (λ x. record { running = x.running; lists = promoted new (most - 1) 2 x.lists }) after.ready
+pub record Relevels (new : ℕ → ℕ) (r : Ready) (after : Promoted Ready) : Type 0 where
+  pub keeps : Becomes r (λ x. record { running = x.running; lists = promoted new (most - 1) 2 x.lists }) after.now
   pub moves : (x : Rules.Ready) → Keeps r x → after.moves ≡ leaving_by new (most - 1) 2 x.lists
 
 -- there is something that is kept

@@ -1,8 +1,9 @@
 -- What promotion in place asks, and does with the rules' lists (the rules' specs/Promotion).
-use Rattle.std.specs.Prelude.{ℕ, suc, ◌-◌, ◌≤◌, ◌≡◌, List, [], ◌∷◌, ltb, length}
+use Rattle.std.specs.Prelude.{ℕ, suc, ◌-◌, ◌≤◌, ◌≡◌, List, [], ◌∷◌, ltb, length, Option, None, Some}
 use Rattle.laws.specs.Words.{pick, In}
 use Rattle.rules.specs.Table.{most}
 use Rattle.rules.specs.Promotion.{drained, promoted, leaving, leaving_by}
+use Rattle.table.specs.declared.Level.{Level}
 use Rattle.table.specs.Stored.{table_of}
 use Rattle.lists.specs.declared.Lists.{Lists}
 use Rattle.lists.specs.Links.{Numbered, Stores}
@@ -10,17 +11,15 @@ use Rattle.jobs.specs.declared.Job.{Job}
 use Rattle.jobs.specs.declared.Tasks.{Tasks}
 use Rattle.jobs.specs.Kept.{Levelled}
 use Rattle.ready.specs.declared.promotion.Promoted.{Promoted}
-use Rattle.ready.specs.declared.promotion.Next.{Next}
-use Rattle.ready.specs.declared.promotion.Next.TheVariants as Next
 
 -- ---- one job, and the front job of a list
 
--- a job at level l whose level is now `to`
-abbrev pub goes_to : ℕ → ℕ → Next
-goes_to l to = pick (ltb to l) (Next.Goes (record { 0 = to })) Next.Stays
+-- the level that a job at level l leaves it for, when its level is now `to`; nothing where it stays
+abbrev pub goes_to : ℕ → ℕ → Option Level
+goes_to l to = pick (ltb to l) (Some (record { 0 = to })) None
 
-abbrev pub front_goes : (ℕ → ℕ) → ℕ → List ℕ → Next
-front_goes new l [] = Next.Stays
+abbrev pub front_goes : (ℕ → ℕ) → ℕ → List ℕ → Option Level
+front_goes new l [] = None
 front_goes new l (x ∷ q) = goes_to l (new x)
 
 -- ---- what is asked
@@ -47,11 +46,11 @@ pub record Drainable (tasks : Tasks) (jobs : List Job) (time : ℕ) (lists : Lis
 -- ---- what is done
 
 -- the list of level l has been drained, and so many jobs have left it
-pub record DrainedTo (new : ℕ → ℕ) (l : ℕ) (ls : ℕ → List ℕ) (r : Promoted) : Type 0 where
-  pub stores : Stores r.lists (drained new l ls (ls l))
+pub record DrainedTo (new : ℕ → ℕ) (l : ℕ) (ls : ℕ → List ℕ) (r : Promoted Lists) : Type 0 where
+  pub stores : Stores r.now (drained new l ls (ls l))
   pub moves : r.moves ≡ leaving new l (ls l)
 
 -- all lists from level 2 up have been drained, and so many jobs have left them
-pub record PromotedTo (new : ℕ → ℕ) (ls : ℕ → List ℕ) (r : Promoted) : Type 0 where
-  pub stores : Stores r.lists (promoted new (most - 1) 2 ls)
+pub record PromotedTo (new : ℕ → ℕ) (ls : ℕ → List ℕ) (r : Promoted Lists) : Type 0 where
+  pub stores : Stores r.now (promoted new (most - 1) 2 ls)
   pub moves : r.moves ≡ leaving_by new (most - 1) 2 ls

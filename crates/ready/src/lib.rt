@@ -23,24 +23,19 @@ ghost use Rattle.ready.specs.Promote.{Promotable};
 ghost use Rattle.ready.specs.Keep.{Keeping, Keeps, Becomes, Relevels, Enterable};
 
 use jobs::{Job, Tasks, level_of};
-use lists::{Lists, Occupied, Who};
+use lists::Lists;
 use promotion::promote;
 use table::{Level, PLACES, TaskNo};
 
 mod promotion; // promote
 
+pub use promotion::Promoted;
+
 // Who runs, and the lists of those who wait.
 #[derive(Clone, Copy)]
 pub struct Ready {
-    pub running: Who,
+    pub running: Option<TaskNo>,
     pub lists: Lists,
-}
-
-// Who runs and who waits when the waiting jobs have moved, and how many did.
-#[derive(Clone, Copy)]
-pub struct Releveled {
-    pub ready: Ready,
-    pub moves: u32,
 }
 
 // "the former goes to the front of the list of its level"
@@ -59,30 +54,30 @@ fn meet(lists: Lists, task: TaskNo, level: Level, other: TaskNo, held: Level) ->
     if level.0 < held.0 {
         let waiting = put_back(lists, held, other);
         return Ready {
-            running: Who::One(task),
+            running: Some(task),
             lists: waiting,
         };
     }
     let waiting = lists.push_back(level, task);
     Ready {
-        running: Who::One(other),
+        running: Some(other),
         lists: waiting,
     }
 }
 
 impl Ready {
     // "puts every waiting job in the list of its new level", its level at this time.
-    pub fn relevel(self, tasks: Tasks, jobs: [Job; PLACES], time: u64) -> Releveled
+    pub fn relevel(self, tasks: Tasks, jobs: [Job; PLACES], time: u64) -> Promoted<Ready>
         requires { Promotable tasks jobs time self.lists }
         ensures { Relevels (levels_at tasks jobs time) self result }
     {
-        let running = self.running;
-        let waiting = self.lists;
-        let promoted = promote(tasks, jobs, time, waiting);
-        let lists = promoted.lists;
-        let ready = Ready { running, lists };
-        Releveled {
-            ready,
+        let promoted = promote(tasks, jobs, time, self.lists);
+        let ready = Ready {
+            running: self.running,
+            lists: promoted.now,
+        };
+        Promoted {
+            now: ready,
             moves: promoted.moves,
         }
     }
@@ -93,17 +88,15 @@ impl Ready {
         requires { Enterable self tasks jobs time task.0 }
         ensures { Becomes self (enter (levels_at tasks jobs time) task.0) result }
     {
-        let running = self.running;
-        let lists = self.lists;
-        match running {
-            Who::Nobody => Ready {
-                running: Who::One(task),
-                lists,
+        match self.running {
+            None => Ready {
+                running: Some(task),
+                lists: self.lists,
             },
-            Who::One(other) => {
+            Some(other) => {
                 let level = level_of(tasks, jobs, time, task);
                 let held = level_of(tasks, jobs, time, other);
-                meet(lists, task, level, other, held)
+                meet(self.lists, task, level, other, held)
             }
         }
     }
@@ -113,20 +106,16 @@ impl Ready {
         requires { Keeping self }
         ensures { Becomes self leave result }
     {
-        let lists = self.lists;
-        let found = lists.lowest();
-        match found {
-            Occupied::Nothing => Ready {
-                running: Who::Nobody,
-                lists,
+        match self.lists.lowest() {
+            None => Ready {
+                running: None,
+                lists: self.lists,
             },
-            Occupied::At(level) => {
-                let popped = lists.pop_front(level);
-                let front = popped.front;
-                let rest = popped.lists;
+            Some(level) => {
+                let popped = self.lists.pop_front(level);
                 Ready {
-                    running: front,
-                    lists: rest,
+                    running: popped.front,
+                    lists: popped.lists,
                 }
             }
         }

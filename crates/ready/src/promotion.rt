@@ -7,75 +7,66 @@ ghost use Rattle.ready.specs.Promote.{goes_to, front_goes, Leaves, Promotable, D
 
 use jobs::{Job, Tasks, time_left};
 use levels::{has_left, level_in};
-use lists::{Lists, Occupied, Who};
+use lists::Lists;
 use table::{Level, MOST, PLACES, TaskNo};
 
 // No list holds more jobs than there are tasks.
 const JOBS: u32 = MOST as u32;
 
-// The lists after jobs have moved, and how many did.
+// What is kept after jobs have moved, and how many did.
 #[derive(Clone, Copy)]
-pub struct Promoted {
-    pub lists: Lists,
+pub struct Promoted<T> {
+    pub now: T,
     pub moves: u32,
 }
 
-// What becomes of the front job of a list: it goes to this level, or nothing goes, since the job stays or the list is empty.
-#[derive(Clone, Copy)]
-enum Next {
-    Stays,
-    Goes(Level),
-}
-
-// Whether the job of this task, which waits at this level, is to leave it, and for which level.
-fn next_of(tasks: Tasks, jobs: [Job; PLACES], time: u64, level: Level, task: TaskNo) -> Next
+// The level that the job of this task, which waits at this level, leaves it for; nothing where it stays.
+fn next_of(tasks: Tasks, jobs: [Job; PLACES], time: u64, level: Level, task: TaskNo) -> Option<Level>
     requires { Leaves tasks jobs time level.0 task.0 }
     ensures { result ≡ goes_to level.0 (levels_at tasks jobs time task.0) }
 {
     let table = tasks.table;
     let left = time_left(table, jobs, time, task);
     if !has_left(&tasks.rising, level, left) {
-        return Next::Stays;
+        return None;
     }
-    Next::Goes(level_in(table.count, &tasks.rising, left))
+    Some(level_in(table.count, &tasks.rising, left))
 }
 
-// The same for the front job of the level's list.
-fn front_next(tasks: Tasks, jobs: [Job; PLACES], time: u64, lists: Lists, level: Level) -> Next
+// The same for the front job of the level's list, where there is one.
+fn front_next(tasks: Tasks, jobs: [Job; PLACES], time: u64, lists: Lists, level: Level) -> Option<Level>
     requires { Drainable tasks jobs time lists level.0 }
     ensures { (ls : ℕ → List ℕ) → Stores lists ls → result ≡ front_goes (levels_at tasks jobs time) level.0 (ls level.0) }
 {
-    let front = lists.front(level);
-    match front {
-        Who::Nobody => Next::Stays,
-        Who::One(task) => next_of(tasks, jobs, time, level, task),
+    match lists.front(level) {
+        None => None,
+        Some(task) => next_of(tasks, jobs, time, level, task),
     }
 }
 
 // The front jobs of the level's list go to the ends of the lists of their new levels, up to the first that stays.
-fn drain(tasks: Tasks, jobs: [Job; PLACES], time: u64, lists: Lists, level: Level) -> Promoted
+fn drain(tasks: Tasks, jobs: [Job; PLACES], time: u64, lists: Lists, level: Level) -> Promoted<Lists>
     requires { Drainable tasks jobs time lists level.0 }
     ensures { (ls : ℕ → List ℕ) → Stores lists ls → DrainedTo (levels_at tasks jobs time) level.0 ls result }
 {
     let mut now = lists;
     let mut moves: u32 = 0;
     while moves < JOBS {
-        let next = front_next(tasks, jobs, time, now, level);
-        match next {
-            Next::Stays => {
-                return Promoted { lists: now, moves };
+        match front_next(tasks, jobs, time, now, level) {
+            None => {
+                return Promoted { now, moves };
             }
-            Next::Goes(to) => {
+            Some(to) => {
                 now = now.move_front(level, to);
                 moves += 1;
             }
         }
     }
-    Promoted { lists: now, moves }
+    Promoted { now, moves }
 }
 
 // Every waiting job goes to the list of its new level.
-pub fn promote(tasks: Tasks, jobs: [Job; PLACES], time: u64, lists: Lists) -> Promoted
+pub fn promote(tasks: Tasks, jobs: [Job; PLACES], time: u64, lists: Lists) -> Promoted<Lists>
     requires { Promotable tasks jobs time lists }
     ensures { (ls : ℕ → List ℕ) → Stores lists ls → PromotedTo (levels_at tasks jobs time) ls result }
 {
@@ -83,25 +74,17 @@ pub fn promote(tasks: Tasks, jobs: [Job; PLACES], time: u64, lists: Lists) -> Pr
     let mut total: u32 = 0;
     let mut from: u8 = 2;
     while from as usize <= MOST {
-        let found = now.lowest_from(Level(from));
-        match found {
-            Occupied::Nothing => {
-                return Promoted {
-                    lists: now,
-                    moves: total,
-                };
+        match now.lowest_from(Level(from)) {
+            None => {
+                return Promoted { now, moves: total };
             }
-            Occupied::At(level) => {
+            Some(level) => {
                 let drained = drain(tasks, jobs, time, now, level);
-                let next = drained.lists;
-                now = next;
+                now = drained.now;
                 total += drained.moves;
                 from = level.0 + 1;
             }
         }
     }
-    Promoted {
-        lists: now,
-        moves: total,
-    }
+    Promoted { now, moves: total }
 }

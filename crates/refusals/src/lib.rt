@@ -1,6 +1,23 @@
-// "Numbers given back": the number of each refusal, in the one place where code says it. Each part answers an enum with the cases that it
-// can give; its `number` names one of these, and is proved to give the rules' `number_of`. docs/refusals.txt says what each means.
+// "Numbers given back": the number of each refusal, in the one place where code says it. Each part that refuses has an enum with the cases
+// that it can give; as `Refused` it names one of these, and is proved to give the rules' number. docs/refusals.txt says what each means.
 #![tactic(auto)]
+
+ghost use Rattle.std.specs.Prelude.{◌≡◌};
+ghost use Rattle.rules.specs.Numbers.{Refusal, number_of, value_of, given};
+
+// A refusal of one of the parts.
+pub trait Refused {
+    // Which of the rules' refusals it is.
+    ghost means: { Self → Refusal };
+
+    // "No."
+    fn number(self) -> u8
+        ensures { result ≡ number_of (means self) };
+
+    // "With it": a task or an offset; 0 where there is neither.
+    fn given(self) -> usize
+        ensures { result ≡ given (value_of (means self)) };
+}
 
 pub const TABLE_SIZE: u8 = 1;
 

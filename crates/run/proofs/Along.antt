@@ -16,14 +16,11 @@ use Rattle.rules.specs.Records.{End, Bad, Read, TaskRecord, EventRecord, record_
 use Rattle.rules.specs.Text.{event_text, events_text}
 use Rattle.rules.proofs.Streams.{end_at, read_within, calls_end, calls_bad, calls_more, calls_same}
 use Rattle.table.specs.Stored.{table_of}
-use Rattle.lists.specs.declared.Who.{Who}
 use Rattle.lists.specs.Answers.{who_in}
 use Rattle.jobs.specs.declared.Tasks.{Tasks}
 use Rattle.kernel.specs.declared.Answer.TheVariants.{Accepted, Refused}
 use Rattle.kernel.specs.declared.Block.{Block}
 use Rattle.kernel.specs.declared.Called.{Called}
-use Rattle.kernel.specs.declared.Margin.{Margin}
-use Rattle.kernel.specs.declared.Margin.TheVariants.{None}
 use Rattle.kernel.specs.declared.Refusal.{Refusal}
 use Rattle.kernel.specs.Answers.{refusal_in}
 use Rattle.kernel.specs.Block.{view_of, Whole}
@@ -31,11 +28,13 @@ use Rattle.lines.specs.Shown.{shown_as}
 use Rattle.run.specs.declared.events.Progress.{Progress}
 use Rattle.lines.specs.Room.{event_room}
 use Rattle.run.specs.Run.{events_room, step_in, totals_of, Begins, Steps, Ends}
+use Rattle.std.specs.Prelude.{None, Option}
+use Rattle.table.specs.declared.TaskNo.{TaskNo}
 
 -- ---- one E line
 
 module _ (n : ℕ) (r : Called) {running waits : ℕ} (runs : running ≡ task_in (who_in r.block.ready.running)) (wait : waits ≡ length (waiting (view_of r.block))) where
-  pub line_accepted : {x : Who} {moves : ℕ} {margin : Margin} → r.answer ≡ Accepted x moves margin
+  pub line_accepted : {x : Option TaskNo} {moves : ℕ} {margin : Option ℤ} → r.answer ≡ Accepted x moves margin
       → shown_as (record { count = n; answer = 0; running = running; moves = moves; waiting = waits; margin = margin }) ≡ line_of n (step_in r)
   line_accepted e = rw (e, runs, wait)
 

@@ -12,12 +12,10 @@ use Rattle.rules.specs.Calls as Calls
 use Rattle.rules.specs.Lines.{EventLine, line_of}
 use Rattle.rules.specs.State.{Nobody}
 use Rattle.table.specs.Stored.{table_of}
-use Rattle.lists.specs.declared.Who.TheVariants as Who
 use Rattle.jobs.specs.declared.Tasks.{Tasks}
 use Rattle.kernel.specs.declared.Answer.TheVariants as Answer
 use Rattle.kernel.specs.declared.Block.{Block}
 use Rattle.kernel.specs.declared.Called.{Called}
-use Rattle.kernel.specs.declared.Margin.{Margin}
 use Rattle.kernel.specs.Answers.{margin_in}
 use Rattle.kernel.specs.Block.{SameTasks, Sizes}
 use Rattle.kernel.proofs.Results.{answer_one}
@@ -27,6 +25,7 @@ use Rattle.lines.specs.Shown.{shown_as}
 use Rattle.run.specs.declared.events.Progress.{Progress}
 use Rattle.run.specs.declared.events.Totals.{Totals}
 use Rattle.run.specs.Run.{room, RunsBy, Runs, step_in, Steps, Ends}
+use Rattle.std.specs.Prelude.{None, Option, Some}
 
 -- ---- run
 
@@ -41,9 +40,9 @@ runs_one s before r x after last = by_room (leb room (length before))
 -- ---- what the line of an event shows
 
 -- a margin is told by what it says: of two answers that differ in nothing else
-margin_one : (a b : Margin) → margin_in a ≡ margin_in b → a ≡ b
+margin_one : (a b : Option ℤ) → margin_in a ≡ margin_in b → a ≡ b
 margin_one a b e =
-    let same : Answer.Accepted Who.Nobody 0 a ≡ Answer.Accepted Who.Nobody 0 b = answer_one _ _ (ap (λ (g : Calls.Margin). Calls.Accepted Nobody 0 g) e) in
+    let same : Answer.Accepted None 0 a ≡ Answer.Accepted None 0 b = answer_one _ _ (ap (λ (g : Calls.Margin). Calls.Accepted Nobody 0 g) e) in
     cc
 
 -- what is shown has the columns of one line

@@ -1,5 +1,5 @@
 -- What each part of the test tells of arrays that may hold anything, in lists.
-use Rattle.std.specs.Prelude.{ℕ, ◌+◌, ◌≤◌, ◌<◌, ◌≡◌, Bool, true, false, not, ◌&&◌, List, eqb}
+use Rattle.std.specs.Prelude.{ℕ, ◌+◌, ◌≤◌, ◌<◌, ◌≡◌, Bool, true, false, not, ◌&&◌, List, eqb, Option, None, Some}
 use Rattle.laws.specs.Words.{pick, digit}
 use Rattle.laws.specs.Bits.{bit_at}
 use Rattle.rules.specs.Table.{most}
@@ -7,13 +7,11 @@ use Rattle.lists.specs.declared.Lists.{Lists}
 use Rattle.lists.specs.Links.{Numbered, at, back}
 use Rattle.lists.specs.Held.{list_at, all_of}
 use Rattle.lists.specs.Marks.{none, seen_at, marked, fresh}
-use Rattle.stored.specs.declared.Gone.{Gone}
 
--- the walk along the list of level l, when the numbers of the lists before it are marked: whether the list is right, and the marks, which
--- stay as they were where it is not
-pub record Went (s : Lists) (l : ℕ) (before : List Bool) (r : Gone) : Type 0 where
-  pub ok : r.ok ≡ (fresh before (list_at s l) && eqb (at s.last l) (back 0 (list_at s l)))
-  pub seen : r.seen ≡ pick r.ok (marked before (list_at s l)) before
+-- the walk along the list of level l, when the numbers of the lists before it are marked: the marks after it, where the list is right
+abbrev pub Went : Lists → ℕ → List Bool → Option (List Bool) → Type 0
+Went s l before r =
+    r ≡ pick (fresh before (list_at s l) && eqb (at s.last l) (back 0 (list_at s l))) (Some (marked before (list_at s l))) None
 
 -- who is not marked has no link
 abbrev pub Unlinked : Lists → List Bool → Type 0

@@ -18,13 +18,6 @@ ghost use Rattle.stored.specs.Test.{Went, Unlinked, ListsRight, MapTrue};
 use lists::Stored;
 use table::{MOST, PLACES, TaskNo};
 
-// Whether a list is right, and who has been seen so far.
-#[derive(Clone, Copy)]
-struct Gone {
-    ok: bool,
-    seen: [bool; PLACES],
-}
-
 // Whether there are lists that the arrays and the map store.
 pub fn holds_lists(stored: Stored) -> bool
     ensures { Decides result (Holds (lists_of stored)) }
@@ -47,9 +40,8 @@ pub fn holds_lists(stored: Stored) -> bool
 fn map_true(stored: Stored) -> bool
     ensures { Decides result (MapTrue (lists_of stored)) }
 {
-    for k in 0..MOST as u8 {
-        let first = stored.first[k as usize + 1];
-        if (stored.map >> k) % 2 != bit_of(first) {
+    for (k, first) in stored.first[1..].iter().enumerate() {
+        if (stored.map >> k) % 2 != bit_of(*first) {
             return false;
         }
     }
@@ -62,18 +54,21 @@ fn lists_hold(stored: Stored) -> bool
 {
     let mut seen = [false; PLACES];
     for l in 1..PLACES {
-        let gone = go_along(stored, l, seen);
-        if !gone.ok {
-            return false;
+        match go_along(stored, l, seen) {
+            None => {
+                return false;
+            }
+            Some(more) => {
+                seen = more;
+            }
         }
-        seen = gone.seen;
     }
     unlinked(stored, seen)
 }
 
-// Goes along the list of level l and marks its numbers. The list is right where each is a task's and was not marked, and the last of
+// Goes along the list of level l and marks its numbers, where the list is right: each is a task's and was not marked, and the last of
 // them is the one that ends it.
-fn go_along(stored: Stored, l: usize, before: [bool; PLACES]) -> Gone
+fn go_along(stored: Stored, l: usize, before: [bool; PLACES]) -> Option<[bool; PLACES]>
     requires { l ≤ most }
     ensures { Went (lists_of stored) l before result }
 {
@@ -83,16 +78,10 @@ fn go_along(stored: Stored, l: usize, before: [bool; PLACES]) -> Gone
     while x.0 != 0 {
         let n = x.0 as usize;
         if MOST < n {
-            return Gone {
-                ok: false,
-                seen: before,
-            };
+            return None;
         }
         if seen[n] {
-            return Gone {
-                ok: false,
-                seen: before,
-            };
+            return None;
         }
         seen[n] = true;
         passed = x.0;
@@ -100,20 +89,16 @@ fn go_along(stored: Stored, l: usize, before: [bool; PLACES]) -> Gone
     }
     let last = stored.last[l];
     if last.0 != passed {
-        return Gone {
-            ok: false,
-            seen: before,
-        };
+        return None;
     }
-    Gone { ok: true, seen }
+    Some(seen)
 }
 
 // Whether every task that was seen in no list has no link.
 fn unlinked(stored: Stored, seen: [bool; PLACES]) -> bool
     ensures { Decides result (Unlinked (lists_of stored) seen) }
 {
-    for x in 0..PLACES {
-        let next = stored.next[x];
+    for (x, next) in stored.next.iter().enumerate() {
         if next.0 != 0 && !seen[x] {
             return false;
         }

@@ -19,13 +19,13 @@ ghost use Rattle.whole.specs.Whole.{Whole};
 ghost use Rattle.whole.specs.Parts.{dated_by, Tested};
 
 use clock::LAST_TICK;
-use jobs::{Job, Last, Tasks};
+use jobs::{Job, Tasks};
 use levels::agrees;
-use lists::Who;
+use lists::Stored;
 use queue::{LISTING_BYTES, active_as, runs_whole};
 use ready::Ready;
 use stored::holds_lists;
-use table::{PLACES, Table, Verdict, tests_to_3};
+use table::{PLACES, Table, tests_to_3};
 
 // "A block is whole when"
 pub fn is_whole(tasks: Tasks, jobs: [Job; PLACES], ready: Ready, clock: u64) -> bool
@@ -41,8 +41,7 @@ pub fn is_whole(tasks: Tasks, jobs: [Job; PLACES], ready: Ready, clock: u64) -> 
     if !jobs_whole(table, jobs, clock) {
         return false;
     }
-    let lists = ready.lists;
-    if !holds_lists(lists.stored()) {
+    if !holds_lists(Stored::from(ready.lists)) {
         return false;
     }
     queue_whole(tasks, jobs, ready, clock)
@@ -52,13 +51,10 @@ pub fn is_whole(tasks: Tasks, jobs: [Job; PLACES], ready: Ready, clock: u64) -> 
 fn tasks_whole(tasks: Tasks) -> bool
     ensures { Decides result (TasksWhole tasks) }
 {
-    let table = tasks.table;
-    let verdict = tests_to_3(table);
-    if let Verdict::Sound = verdict {
-        let rising = tasks.rising;
-        return agrees(table, rising);
+    match tests_to_3(tasks.table) {
+        Ok(()) => agrees(tasks.table, tasks.rising),
+        Err(_) => false,
     }
-    false
 }
 
 // "every active job has a release time, and no release time lies after the clock"
@@ -66,10 +62,8 @@ fn jobs_whole(table: Table, jobs: [Job; PLACES], clock: u64) -> bool
     requires { table.count ≤ most }
     ensures { Decides result (JobsWhole table jobs clock) }
 {
-    let count = table.count;
-    for k in 1..count + 1 {
-        let job = jobs[k];
-        if !is_dated(job, clock) {
+    for job in &jobs[1..table.count + 1] {
+        if !is_dated(*job, clock) {
             return false;
         }
     }
@@ -80,10 +74,9 @@ fn jobs_whole(table: Table, jobs: [Job; PLACES], clock: u64) -> bool
 fn is_dated(job: Job, clock: u64) -> bool
     ensures { result ≡ dated_by job.active (last_in job.last) clock }
 {
-    let last = job.last;
-    match last {
-        Last::Never => !job.active,
-        Last::At(time) => time <= clock,
+    match job.last {
+        None => !job.active,
+        Some(time) => time <= clock,
     }
 }
 
@@ -93,17 +86,15 @@ fn queue_whole(tasks: Tasks, jobs: [Job; PLACES], ready: Ready, clock: u64) -> b
     requires { Tested tasks jobs ready clock }
     ensures { Decides result (Whole tasks jobs ready clock) }
 {
-    let running = ready.running;
-    let lists = ready.lists;
     let mut bytes = [0u8; LISTING_BYTES];
-    let end = lists.list_all(&mut bytes);
-    match running {
-        Who::Nobody => {
+    let end = ready.lists.list_all(&mut bytes);
+    match ready.running {
+        None => {
             if end != 0 {
                 return false; // "nobody runs only if nobody waits"
             }
             active_as(tasks.table.count, jobs, [false; PLACES])
         }
-        Who::One(first) => runs_whole(tasks, jobs, clock, first, bytes, end / 2),
+        Some(first) => runs_whole(tasks, jobs, clock, first, bytes, end / 2),
     }
 }

@@ -1,11 +1,11 @@
 use mathlib.Core.Bool.{false}
-use Rattle.jobs.specs.declared.Last.TheVariants.{Never}
 use native.Mathlib.Omega.{arith}
 use Rattle.image.proofs.Taking.{none_taken, next_taken, all_taken}
 use Rattle.image.proofs.take.jobs_at.Goals as goal
+use Rattle.std.specs.Prelude.{None}
 
 pub loop-i-init : goal.loop-i-init
-loop-i-init c = (omega arith, none_taken _ _ _ _ (record { active = false; last = Never }))
+loop-i-init c = (omega arith, none_taken _ _ _ _ (record { active = false; last = None }))
 
 pub loop-i-preserved : goal.loop-i-preserved
 loop-i-preserved c = let now = c.loop-i in
