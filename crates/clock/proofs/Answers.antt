@@ -4,8 +4,9 @@ use borrow.Author.Tests.{lt-leb}
 use Rattle.laws.specs.Words.{pick}
 use Rattle.rules.specs.Numbers.{CounterWentBack, ClockFull, Verdict, Passed, Failed, number_in, first_of}
 use Rattle.rules.specs.Clock.{elapsed_of, went_back, time_after, last_tick, too_far}
-use Rattle.clock.specs.declared.Moved.{Moved}
-use Rattle.clock.specs.declared.Moved.TheVariants as Says
+use Rattle.clock.specs.declared.ClockRefusal.{ClockRefusal}
+use Rattle.clock.specs.declared.ClockRefusal.TheVariants as Code
+use Rattle.std.specs.Prelude.{Result, Ok, Err}
 use Rattle.clock.specs.Advance.{Advanced, advanced_by, advance_of, advanced_in}
 
 module _ (clock last reading e : ℕ) (is : e ≡ elapsed_of reading last) where
@@ -30,14 +31,14 @@ pub time_kept : (time : ℕ) (v : Verdict) → v ≡ Passed → (advanced_by tim
 time_kept time v e = rw e
 
 -- the answer that has this number; `time` is for none
-abbrev numbered : ℕ → ℕ → Moved
-numbered n time = pick (eqb n 0) (Says.To time) (pick (eqb n 5) Says.CounterWentBack Says.ClockFull)
+abbrev numbered : ℕ → ℕ → Result ℕ ClockRefusal
+numbered n time = pick (eqb n 0) (Ok time) (pick (eqb n 5) (Err Code.CounterWentBack) (Err Code.ClockFull))
 
-is_numbered : (a : Moved) → numbered (number_in (advanced_in a).verdict) (advanced_in a).time ≡ a
-is_numbered (Says.To time) = refl
-is_numbered Says.CounterWentBack = refl
-is_numbered Says.ClockFull = refl
+is_numbered : (a : Result ℕ ClockRefusal) → numbered (number_in (advanced_in a).verdict) (advanced_in a).time ≡ a
+is_numbered (Ok time) = refl
+is_numbered (Err Code.CounterWentBack) = refl
+is_numbered (Err Code.ClockFull) = refl
 
 -- an answer is determined by what it says
-pub moved_one : (a b : Moved) → advanced_in a ≡ advanced_in b → a ≡ b
+pub moved_one : (a b : Result ℕ ClockRefusal) → advanced_in a ≡ advanced_in b → a ≡ b
 moved_one a b e = sym (is_numbered a) ∙ ap (λ (x : Advanced). numbered (number_in x.verdict) x.time) e ∙ is_numbered b

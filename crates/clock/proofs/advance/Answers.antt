@@ -1,4 +1,4 @@
-use Rattle.std.proofs.Common.{sym, arith, rules}
+use Rattle.std.proofs.Common.{sym, arith}
 use Rattle.clock.proofs.Answers.{turned_back, full, goes_on}
 use Rattle.clock.proofs.advance.Goals as goal
 

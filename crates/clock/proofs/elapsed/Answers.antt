@@ -1,4 +1,4 @@
-use Rattle.std.proofs.Common.{arith, rules}
+use Rattle.std.proofs.Common.{arith}
 use Rattle.rules.specs.Clock.{elapsed_of}
 use Rattle.clock.proofs.elapsed.Goals as goal
 

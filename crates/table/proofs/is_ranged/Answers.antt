@@ -1,4 +1,3 @@
-use borrow.Author.Rules.{rules}
 use Rattle.table.proofs.is_ranged.Goals as goal
 
 pub returns-then-in_range-2 : goal.returns-then-in_range-2
