@@ -14,8 +14,8 @@ use Rattle.lists.proofs.Lists.move_front.Symbol as move_front'
 use Rattle.lists.proofs.Lists.pop_front.Symbol as pop_front'
 use Rattle.lists.proofs.Lists.push_back.Symbol as push_back'
 use Rattle.lists.proofs.Lists.push_front.Symbol as push_front'
-use Rattle.lists.proofs.Lists.stored.Symbol as stored'
 use Rattle.lists.proofs.Lists.waiting.Symbol as waiting'
+use Rattle.lists.proofs.StoredFromLists.from.Symbol as stored_from'
 
 abbrev pub functions : Tree
 functions = link.table
@@ -53,8 +53,8 @@ push_back W i = link.linked-lists::Lists::push_back W i tt
 pub push_front : Found push_front'.code
 push_front W i = link.linked-lists::Lists::push_front W i tt
 
-pub stored : Found stored'.code
-stored W i = link.linked-lists::Lists::stored W i tt
-
 pub waiting : Found waiting'.code
 waiting W i = link.linked-lists::Lists::waiting W i tt
+
+pub stored_from : Found stored_from'.code
+stored_from W i = link.linked-lists::StoredFromLists::from W i tt

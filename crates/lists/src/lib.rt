@@ -17,9 +17,9 @@
 //      waiting, list_all                      a step for each level and each job
 //
 // Contracts speak of lists of numbers: whatever lists `ls` are stored, they say what is answered and which lists are stored afterwards.
-// The fields are private, so nothing above this crate names a link or a bit. All functions but `empty` and the conversions from and to `Stored` are inner forms: they
-// require that the arrays store lists. `empty` makes such arrays, each operation keeps them so, and crate stored tests arrays that may
-// hold anything.
+// The fields are private, so nothing above this crate names a link or a bit. All functions but `empty`, `task_number` and the conversions
+// from and to `Stored` are inner forms: they require that the arrays store lists. `empty` makes such arrays, each operation keeps them so,
+// and crate stored tests arrays that may hold anything.
 #![tactic(auto)]
 
 ghost use Rattle.std.specs.Prelude.{◌≡◌, List, [], ℕ, suc, ◌-◌};
@@ -85,13 +85,16 @@ fn without_bit(map: u64, level: Level) -> u64
 
 // The arrays and the map, to be kept elsewhere.
 impl From<Lists> for Stored {
-    fn from(lists: Lists) -> Stored
-        ensures { result ≡ stored_of lists }
-    {
+    ghost from_gives = { λ lists stored. stored ≡ stored_of lists };
+
+    fn from(lists: Lists) -> Stored {
+        let first = lists.first;
+        let last = lists.last;
+        let next = lists.next;
         Stored {
-            first: lists.first,
-            last: lists.last,
-            next: lists.next,
+            first,
+            last,
+            next,
             map: lists.map,
         }
     }
@@ -99,13 +102,16 @@ impl From<Lists> for Stored {
 
 // The lists again, from arrays and a map that may hold anything; crate stored tells whether they store lists.
 impl From<Stored> for Lists {
-    fn from(stored: Stored) -> Lists
-        ensures { result ≡ lists_of stored }
-    {
+    ghost from_gives = { λ stored lists. lists ≡ lists_of stored };
+
+    fn from(stored: Stored) -> Lists {
+        let first = stored.first;
+        let last = stored.last;
+        let next = stored.next;
         Lists {
-            first: stored.first,
-            last: stored.last,
-            next: stored.next,
+            first,
+            last,
+            next,
             map: stored.map,
         }
     }

@@ -2,25 +2,36 @@
 use mathlib.Core.Path.{◌≡◌, refl, sym, ap, ◌∙◌}
 use mathlib.Core.Bool.{Bool, true, false, not, ◌&&◌}
 use mathlib.Core.List.{List, ◌∷◌, ◌++◌}
-use Prim.Native.Nat.{ℕ, zero, suc, ◌+◌, ◌≤◌, ◌<◌}
+use Prim.Native.Nat.{ℕ, zero, suc, ◌+◌, ◌-◌, ◌≤◌, ◌<◌}
 use native.Mathlib.Decide.{ℕ_discrete}
 use native.Mathlib.Numerals.{add-one}
 use native.Mathlib.Omega.{arith}
 use borrow.Author.Tests.{le-leb, lt-leb, eqb-true, eq-eqb, ne_eqb}
 use lib.Dec.{eqb}
-use lib.ListN.{length, set, length-set}
-use Rattle.laws.specs.Words.{Decides, count, joined}
-use Rattle.laws.proofs.Bools.{true_false, both_true, decides_same}
+use lib.ListN.{length, take, drop, get_or, set, length-set}
+use Rattle.laws.specs.Words.{Decides, pick, count, joined}
+use Rattle.laws.proofs.Bools.{clash, both_true, decides_same}
 use Rattle.laws.proofs.Counts.{count_le}
 use Rattle.rules.specs.Table.{most}
 use Rattle.lists.specs.declared.Lists.{Lists}
-use Rattle.stored.specs.declared.Gone.{Gone}
-use Rattle.lists.specs.Links.{at, back}
+use Rattle.lists.specs.Links.{nobody, at, back}
 use Rattle.lists.specs.Held.{walk, list_at, all_of}
 use Rattle.lists.specs.Marks.{none, seen_at, marked, fresh}
 use Rattle.stored.specs.Test.{Went, Unlinked, ListsRight}
+use Rattle.std.specs.Prelude.{None, Some}
+use Rattle.std.proofs.lemmas.Option.{none-some}
+use Rattle.std.proofs.lemmas.List.{get_or-take, length-take}
+use Rattle.std.proofs.lemmas.Grind.{get_or_after_one}
+use Rattle.table.specs.declared.TaskNo.{TaskNo}
 use Rattle.lists.proofs.Walks.{walk_end, walk_on}
 use Rattle.lists.proofs.Marks.{unseen_falls, marked_append, fresh_append}
+
+-- ---- the bits of the map: entry k behind the first of an array is entry k + 1
+
+pub behind_first : (a : List TaskNo) (k : ℕ) → k < length (take (length a - 1) (drop 1 a)) → get_or (take (length a - 1) (drop 1 a)) k nobody ≡ get_or a (k + 1) nobody
+behind_first a k h =
+    get_or-take (length a - 1) (drop 1 a) k nobody (omega (arith, length-take (length a - 1) (drop 1 a)))
+    ∙ get_or_after_one a k nobody ∙ ap (λ (i : ℕ). get_or a i nobody) (omega arith)
 
 -- ---- along the list of level l: x is the next, and the walk from there is left
 
@@ -46,16 +57,12 @@ module _ {s : Lists} {l : ℕ} {before seen : List Bool} {passed x : ℕ} (now :
     end : back 0 (list_at s l) ≡ passed
     end = sym (rw (walk_end (at s.next) now.fuel x z) at now.last)
 
-    pub going_ends : at s.last l ≡ passed → Went s l before (record { ok = true; seen = seen })
+    pub going_ends : at s.last l ≡ passed → Went s l before (Some seen)
     unfolding marked
-    going_ends e =
-        record {
-          ok = rw (over, end, eq-eqb (at s.last l) passed e);
-          seen = rw (walk_end (at s.next) now.fuel x z) at now.marked;
-        }
+    going_ends e = rw (over, end, eq-eqb (at s.last l) passed e) (ap Some (rw (walk_end (at s.next) now.fuel x z) at now.marked))
 
-    pub going_misses : (at s.last l ≡ passed → ⊥) → Went s l before (record { ok = false; seen = before })
-    going_misses d = record { ok = rw (over, end, ne_eqb (at s.last l) passed d); seen = refl }
+    pub going_misses : (at s.last l ≡ passed → ⊥) → Went s l before None
+    going_misses d = rw (over, end, ne_eqb (at s.last l) passed d)
 
   module _ (h : x ≡ 0 → ⊥) where
     rest : (fuel : ℕ) × (now.fuel ≡ suc fuel) × (walk (at s.next) now.fuel x ≡ x ∷ walk (at s.next) fuel (at s.next x))
@@ -65,16 +72,16 @@ module _ {s : Lists} {l : ℕ} {before seen : List Bool} {passed x : ℕ} (now :
         go zero e = let z : ⊥ = omega (arith, now.enough) in absurd z
         go (suc fuel) e = (fuel, e, rw e (walk_on (at s.next) fuel x h))
 
-    refused : fresh seen (x ∷ walk (at s.next) rest.0 (at s.next x)) ≡ false → Went s l before (record { ok = false; seen = before })
-    refused f = record { ok = rw (← now.fresh, rest.2, f); seen = refl }
+    refused : fresh seen (x ∷ walk (at s.next) rest.0 (at s.next x)) ≡ false → Went s l before None
+    refused f = rw (← now.fresh, rest.2, f)
 
     -- no task's number
-    pub going_strays : most < x → Went s l before (record { ok = false; seen = before })
+    pub going_strays : most < x → Went s l before None
     unfolding fresh
     going_strays b = refused (rw (lt-leb x most b))
 
     -- a number seen before
-    pub going_meets : x ≤ most → seen_at seen x ≡ true → Went s l before (record { ok = false; seen = before })
+    pub going_meets : x ≤ most → seen_at seen x ≡ true → Went s l before None
     unfolding fresh
     going_meets b t = refused (rw (le-leb x most b, t))
 
@@ -126,7 +133,7 @@ module _ {s : Lists} {l : ℕ} {seen : List Bool} (now : Seeing s l seen) where
       e : marked none (all_of s) ≡ seen
       e = sym (rw z at now.marked)
 
-  module _ (b : l ≤ most) {r : Gone} (w : Went s l seen r) where
+  module _ (b : l ≤ most) where
     above : (n : ℕ) × (now.left ≡ suc n) × (joined (list_at s) now.left l ≡ list_at s l ++ joined (list_at s) n (suc l))
     unfolding joined
     above = go now.left refl
@@ -138,18 +145,27 @@ module _ {s : Lists} {l : ℕ} {seen : List Bool} (now : Seeing s l seen) where
     split : fresh none (all_of s) ≡ (fresh seen (list_at s l) && fresh (marked seen (list_at s l)) (joined (list_at s) above.0 (suc l)))
     split = sym now.fresh ∙ ap (fresh seen) above.2 ∙ fresh_append seen (list_at s l) (joined (list_at s) above.0 (suc l))
 
-    pub seeing_refutes : r.ok ≡ false → ListsRight s → ⊥
-    seeing_refutes f h =
+    -- the list of level l is not right
+    pub seeing_refutes : Went s l seen None → ListsRight s → ⊥
+    seeing_refutes w h =
         let t = both_true (fresh seen (list_at s l)) (fresh (marked seen (list_at s l)) (joined (list_at s) above.0 (suc l))) (sym split ∙ h.fresh) in
         let e = eq-eqb (at s.last l) (back 0 (list_at s l)) (h.last l (record { low = now.low; high = b })) in
-        true_false r.ok (w.ok ∙ rw (t.0, e)) f
+        none-some (marked seen (list_at s l)) (rw (t.0, e) at w)
 
-    pub seeing_turns : r.ok ≡ true → Seeing s (l + 1) r.seen
-    seeing_turns t = rw (add-one l, rw t at w.seen) turned
+    -- .. or it is, and its numbers are marked too
+    pub seeing_turns : {more : List Bool} → Went s l seen (Some more) → Seeing s (l + 1) more
+    seeing_turns {more} w = rw (add-one l, told.1) turned
       where
+        told : (fresh seen (list_at s l) && eqb (at s.last l) (back 0 (list_at s l)) ≡ true) × (more ≡ marked seen (list_at s l))
+        told = go (fresh seen (list_at s l) && eqb (at s.last l) (back 0 (list_at s l))) w
+          where
+            go : (t : Bool) → Some more ≡ pick t (Some (marked seen (list_at s l))) None → (t ≡ true) × (more ≡ marked seen (list_at s l))
+            go true e = (refl, cc)
+            go false e = clash cc
+
         turned : Seeing s (suc l) (marked seen (list_at s l))
         turned =
-            let p = both_true (fresh seen (list_at s l)) (eqb (at s.last l) (back 0 (list_at s l))) (sym w.ok ∙ t) in
+            let p = both_true (fresh seen (list_at s l)) (eqb (at s.last l) (back 0 (list_at s l))) told.0 in
             record {
               left = above.0;
               levels = omega (arith, now.levels, above.1);

@@ -9,7 +9,7 @@ use Rattle.lists.specs.Links.{at}
 use Rattle.stored.proofs.map_true.Given as goal
 
 abbrev pub invariant-loop-k : goal.invariant-loop-k
-invariant-loop-k l = (l.k ≤ most) × ((j : ℕ) → j < l.k → bit_at l.stored.map j ≡ digit (not (eqb (at l.stored.first (j + 1)) 0)))
+invariant-loop-k l = (l.k ≤ most) × ((j : ℕ) → j < l.k → bit_at l.fn.stored.map j ≡ digit (not (eqb (at l.fn.stored.first (j + 1)) 0)))
 
 abbrev pub decreases-loop-k : goal.decreases-loop-k
 decreases-loop-k l = most - l.k

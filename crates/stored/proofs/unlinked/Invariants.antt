@@ -7,7 +7,7 @@ use Rattle.lists.specs.Marks.{seen_at}
 use Rattle.stored.proofs.unlinked.Given as goal
 
 abbrev pub invariant-loop-x : goal.invariant-loop-x
-invariant-loop-x l = (l.x ≤ suc most) × ((y : ℕ) → y < l.x → seen_at l.seen y ≡ false → at l.stored.next y ≡ 0)
+invariant-loop-x l = (l.x ≤ suc most) × ((y : ℕ) → y < l.x → seen_at l.fn.seen y ≡ false → at l.fn.stored.next y ≡ 0)
 
 abbrev pub decreases-loop-x : goal.decreases-loop-x
 decreases-loop-x l = suc most - l.x
