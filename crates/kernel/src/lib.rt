@@ -98,9 +98,9 @@ impl Refused for Refusal {
 
 // Tests 5 and 6 of the clock are tests of each call.
 impl From<ClockRefusal> for Refusal {
-    fn from(refusal: ClockRefusal) -> Refusal
-        ensures { refusal_in result ≡ clock_refusal_in refusal }
-    {
+    ghost from_gives = { λ clock call. refusal_in call ≡ clock_refusal_in clock };
+
+    fn from(refusal: ClockRefusal) -> Refusal {
         match refusal {
             ClockRefusal::CounterWentBack => Refusal::CounterWentBack,
             ClockRefusal::ClockFull => Refusal::ClockFull,

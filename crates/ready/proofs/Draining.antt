@@ -35,7 +35,7 @@ drains_starts : {new : ℕ → ℕ} {l : ℕ} {s : Lists} (ls : ℕ → List ℕ
 drains_starts ls st = record { lists = ls; stores = st; same = refl; left = omega arith }
 
 module _ {new : ℕ → ℕ} {l : ℕ} {ls : ℕ → List ℕ} {now : Lists} {moves : ℕ} (w : DrainsTo new l ls now moves) where
-  drains_ends : None ≡ front_goes new l (w.lists l) → DrainedTo new l ls (record { lists = now; moves = moves })
+  drains_ends : None ≡ front_goes new l (w.lists l) → DrainedTo new l ls (record { now = now; moves = moves })
   drains_ends e =
       let end = stays_drained new l (w.lists l) e w.lists in
       record { stores = subst (Stores now) (sym end.0 ∙ w.same) w.stores; moves = omega (arith, end.1, w.left) }
@@ -52,7 +52,7 @@ module _ {new : ℕ → ℕ} {l : ℕ} {ls : ℕ → List ℕ} {now : Lists} {mo
       }
 
   -- nobody is left
-  drains_all : w.lists l ≡ [] → DrainedTo new l ls (record { lists = now; moves = moves })
+  drains_all : w.lists l ≡ [] → DrainedTo new l ls (record { now = now; moves = moves })
   drains_all e = drains_ends (ap (front_goes new l) (sym e))
 
 -- ---- with what each turn asks
@@ -69,14 +69,14 @@ draining_starts {l = l} able =
 
 -- as many have moved as a list can hold
 pub draining_all : {tasks : Tasks} {jobs : List Job} {time l : ℕ} {before now : Lists} {moves : ℕ} → Draining tasks jobs time l before now moves → most ≤ moves
-    → (ls : ℕ → List ℕ) → Stores before ls → DrainedTo (levels_at tasks jobs time) l ls (record { lists = now; moves = moves })
+    → (ls : ℕ → List ℕ) → Stores before ls → DrainedTo (levels_at tasks jobs time) l ls (record { now = now; moves = moves })
 draining_all {l = l} {now = now} w h ls st =
     let d = w.target ls st in
     drains_all d (sym (list_held d.stores l) ∙ long_none (list_at now l) (omega (arith, w.few)))
 
 module _ {tasks : Tasks} {jobs : List Job} {time l : ℕ} {before now : Lists} {moves : ℕ} (w : Draining tasks jobs time l before now moves)
     {r : Option Level} (said : (ls : ℕ → List ℕ) → Stores now ls → r ≡ front_goes (levels_at tasks jobs time) l (ls l)) where
-  pub draining_ends : r ≡ None → (ls : ℕ → List ℕ) → Stores before ls → DrainedTo (levels_at tasks jobs time) l ls (record { lists = now; moves = moves })
+  pub draining_ends : r ≡ None → (ls : ℕ → List ℕ) → Stores before ls → DrainedTo (levels_at tasks jobs time) l ls (record { now = now; moves = moves })
   draining_ends e ls st = let d = w.target ls st in drains_ends d (sym e ∙ said d.lists d.stores)
 
   module _ (to : Level) (e : r ≡ Some to) where

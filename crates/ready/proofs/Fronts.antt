@@ -67,7 +67,7 @@ module _ (new : ℕ → ℕ) (l : ℕ) where
   stays_drained [] e lists = (refl, refl)
   stays_drained (x ∷ q) e lists = go (ltb (new x) l) e
     where
-      go : (b : Bool) → None ≡ pick b (Some (record { 0 = new x })) None
+      go : (b : Bool) → ◌≡◌ {A = Option Level} None (pick b (Some (record { 0 = new x })) None)
           → (pick b (drained new l (to_end (put lists l q) (new x) x) q) lists ≡ lists) × (pick b (1 + leaving new l q) 0 ≡ 0)
       go true f = clash cc
       go false f = (refl, refl)

@@ -82,15 +82,15 @@ promotes_starts ls st = record { lists = ls; stores = st; same = refl; left = om
 
 module _ {new : ℕ → ℕ} {ls : ℕ → List ℕ} {now : Lists} {moves l : ℕ} (w : PromotesTo new ls now moves l) where
   ended : (promoted new (suc most - l) l w.lists ≡ w.lists) × (leaving_by new (suc most - l) l w.lists ≡ 0)
-      → PromotedTo new ls (record { lists = now; moves = moves })
+      → PromotedTo new ls (record { now = now; moves = moves })
   ended e = record { stores = subst (Stores now) (sym e.0 ∙ w.same) w.stores; moves = omega (arith, e.1, w.left) }
 
   -- all lists have had their turn
-  promotes_ends : most < l → PromotedTo new ls (record { lists = now; moves = moves })
+  promotes_ends : most < l → PromotedTo new ls (record { now = now; moves = moves })
   promotes_ends h = ended (all_passed new (suc most) l w.lists h)
 
   -- none of those that are left holds a job
-  promotes_stops : 1 ≤ l → l ≤ suc most → None ≡ occupied_at (lowest w.lists (suc most - l) l) → PromotedTo new ls (record { lists = now; moves = moves })
+  promotes_stops : 1 ≤ l → l ≤ suc most → None ≡ occupied_at (lowest w.lists (suc most - l) l) → PromotedTo new ls (record { now = now; moves = moves })
   promotes_stops low high e =
       let none = nothing_from w.lists l high low e in
       let passed = empty_passed new (suc most) w.lists (suc most - l) l (suc most) (omega arith) (omega arith) none.1 in
@@ -99,7 +99,7 @@ module _ {new : ℕ → ℕ} {ls : ℕ → List ℕ} {now : Lists} {moves l : �
 
   -- the lowest of them has its turn
   promotes_turns : l ≤ suc most → (level : Level) → Some level ≡ occupied_at (lowest w.lists (suc most - l) l)
-      → (r : Promoted) → DrainedTo new level.0 w.lists r → PromotesTo new ls r.lists (moves + r.moves) (level.0 + 1)
+      → (r : Promoted Lists) → DrainedTo new level.0 w.lists r → PromotesTo new ls r.now (moves + r.moves) (level.0 + 1)
   promotes_turns high level e r d =
       let at = level_from w.lists l high level e in
       let passed = empty_passed new (suc most) w.lists (level.0 - l) l level.0 (omega (arith, at.0)) (omega (arith, at.1)) at.2 in
@@ -127,14 +127,14 @@ module _ {tasks : Tasks} {jobs : List Job} {time : ℕ} {before now : Lists} {mo
   abbrev new : ℕ → ℕ
   new = levels_at tasks jobs time
 
-  pub promoting_ends : most < l → (ls : ℕ → List ℕ) → Stores before ls → PromotedTo (levels_at tasks jobs time) ls (record { lists = now; moves = moves })
+  pub promoting_ends : most < l → (ls : ℕ → List ℕ) → Stores before ls → PromotedTo (levels_at tasks jobs time) ls (record { now = now; moves = moves })
   promoting_ends h ls st = promotes_ends (w.target ls st) h
 
   pub promoting_asks : l ≤ most → HoldsAt now l
   promoting_asks h = record { lists = w.able.ls; stores = w.able.stores; level = record { low = omega (arith, w.low); high = h } }
 
   module _ {r : Option Level} (said : (ls : ℕ → List ℕ) → Stores now ls → r ≡ occupied_at (lowest ls (suc most - l) l)) where
-    pub promoting_stops : r ≡ None → (ls : ℕ → List ℕ) → Stores before ls → PromotedTo (levels_at tasks jobs time) ls (record { lists = now; moves = moves })
+    pub promoting_stops : r ≡ None → (ls : ℕ → List ℕ) → Stores before ls → PromotedTo (levels_at tasks jobs time) ls (record { now = now; moves = moves })
     promoting_stops e ls st =
         let p = w.target ls st in
         promotes_stops p (omega (arith, w.low)) w.high (sym e ∙ said p.lists p.stores)
@@ -148,8 +148,8 @@ module _ {tasks : Tasks} {jobs : List Job} {time : ℕ} {before now : Lists} {mo
           let at = promoting_level in
           record { all = w.able; level = record { low = omega (arith, at.0, w.low); high = at.1 }; low = omega (arith, at.0, w.low) }
 
-      pub promoting_turns : (drains : Promoted) → ((ls : ℕ → List ℕ) → Stores now ls → DrainedTo (levels_at tasks jobs time) level.0 ls drains)
-          → Promoting tasks jobs time before drains.lists (moves + drains.moves) (level.0 + 1)
+      pub promoting_turns : (drains : Promoted Lists) → ((ls : ℕ → List ℕ) → Stores now ls → DrainedTo (levels_at tasks jobs time) level.0 ls drains)
+          → Promoting tasks jobs time before drains.now (moves + drains.moves) (level.0 + 1)
       promoting_turns drains to =
           let at = promoting_level in
           let d = to w.able.ls w.able.stores in

@@ -11,7 +11,6 @@ use Rattle.lists.proofs.Walks.{list_held}
 use Rattle.lists.proofs.Determined.{arrays_one}
 use Rattle.lists.proofs.Results.{who_one}
 use Rattle.ready.specs.declared.Ready.{Ready}
-use Rattle.ready.specs.declared.Releveled.{Releveled}
 use Rattle.ready.specs.declared.promotion.Promoted.{Promoted}
 use Rattle.ready.specs.Keep.{ready_in, Keeps, Keeping, Becomes, Relevels}
 use Rattle.ready.specs.Promote.{front_goes, DrainedTo, PromotedTo}
@@ -33,9 +32,9 @@ pub becomes_result : {r : Ready} → Keeping r → (f : Rules.Ready → Rules.Re
 becomes_result h f a b sa sb p q = keeps_one a b sa sb (p h.ready h.keeps) (q h.ready h.keeps)
 
 -- relevel
-pub releveled_result : {r : Ready} → Keeping r → (new : ℕ → ℕ) (a b : Releveled) → Sized a.ready.lists → Sized b.ready.lists → Relevels new r a → Relevels new r b → a ≡ b
+pub releveled_result : {r : Ready} → Keeping r → (new : ℕ → ℕ) (a b : Promoted Ready) → Sized a.now.lists → Sized b.now.lists → Relevels new r a → Relevels new r b → a ≡ b
 releveled_result h new a b sa sb p q =
-    ap₂ (λ (x : Ready) (m : ℕ). record { ready = x; moves = m }) (becomes_result h _ a.ready b.ready sa sb p.keeps q.keeps)
+    ap₂ (λ (x : Ready) (m : ℕ). record { now = x; moves = m }) (becomes_result h _ a.now b.now sa sb p.keeps q.keeps)
     (p.moves h.ready h.keeps ∙ sym (q.moves h.ready h.keeps))
 
 -- `requires` says that there are lists; `ensures` speaks of any
@@ -50,9 +49,9 @@ module _ {s : Lists} (h : Holds s) where
       → ((ls : ℕ → List ℕ) → Stores s ls → b ≡ front_goes new l (ls l)) → a ≡ b
   next_result new l a b p q = p h.lists h.stores ∙ sym (q h.lists h.stores)
 
-  module _ (new : ℕ → ℕ) (a b : Promoted) (sa : Sized a.lists) (sb : Sized b.lists) where
-    moved_one : {ls : ℕ → List ℕ} (n : ℕ) → Stores a.lists ls → Stores b.lists ls → a.moves ≡ n → b.moves ≡ n → a ≡ b
-    moved_one n p q i j = ap₂ (λ (r : Lists) (m : ℕ). record { lists = r; moves = m }) (arrays_one sa sb p q) (i ∙ sym j)
+  module _ (new : ℕ → ℕ) (a b : Promoted Lists) (sa : Sized a.now) (sb : Sized b.now) where
+    moved_one : {ls : ℕ → List ℕ} (n : ℕ) → Stores a.now ls → Stores b.now ls → a.moves ≡ n → b.moves ≡ n → a ≡ b
+    moved_one n p q i j = ap₂ (λ (r : Lists) (m : ℕ). record { now = r; moves = m }) (arrays_one sa sb p q) (i ∙ sym j)
 
     -- drain
     pub drained_result : (l : ℕ) → ((ls : ℕ → List ℕ) → Stores s ls → DrainedTo new l ls a) → ((ls : ℕ → List ℕ) → Stores s ls → DrainedTo new l ls b) → a ≡ b

@@ -3,18 +3,18 @@ use Rattle.ready.proofs.Runners.{waits_enters, runner_waits, enters_alone, enter
 use Rattle.ready.proofs.Ready.enter.Goals as goal
 
 pub level_of-held-requires : goal.level_of-held-requires
-level_of-held-requires c = (runner_waits c.requires _ c.in-One.is).known
+level_of-held-requires c = (runner_waits c.requires _ c.in-Some.is).known
 
 pub meet-requires : goal.meet-requires
 meet-requires c = let p = c.requires in (
   waits_enters _ p.keeps.stores p.task c.level_of-level.ensures,
-  waits_enters _ p.keeps.stores (runner_waits p _ c.in-One.is) c.level_of-held.ensures,
+  waits_enters _ p.keeps.stores (runner_waits p _ c.in-Some.is) c.level_of-held.ensures,
 )
 
-pub returns-in-Nobody : goal.returns-in-Nobody
-returns-in-Nobody c = enters_alone (levels_at c.args.tasks c.args.jobs c.args.time) _ c.in-Nobody.is
+pub returns-in-None : goal.returns-in-None
+returns-in-None c = enters_alone (levels_at c.args.tasks c.args.jobs c.args.time) _ c.in-None.is
 
-pub returns-in-One : goal.returns-in-One
-returns-in-One c = let a = c.args in
-    enters_meets (levels_at a.tasks a.jobs a.time) a.task _ _ _ c.meet.result c.in-One.is
+pub returns-in-Some : goal.returns-in-Some
+returns-in-Some c = let a = c.args in
+    enters_meets (levels_at a.tasks a.jobs a.time) a.task _ _ _ c.meet.result c.in-Some.is
     c.level_of-level.ensures c.level_of-held.ensures c.meet.ensures

@@ -7,13 +7,13 @@ pop_front-popped-requires c = let p = c.requires in
     record {
       lists = p.ready.lists;
       stores = p.keeps.stores;
-      level = omega (arith, leaves_level c.lowest-found.ensures _ c.in-At.is p);
+      level = omega (arith, leaves_level c.lowest.ensures _ c.in-Some.is p);
     }
 
-pub returns-in-Nothing : goal.returns-in-Nothing
-returns-in-Nothing c = leaves_nobody c.lowest-found.ensures c.in-Nothing.is
+pub returns-in-None : goal.returns-in-None
+returns-in-None c = leaves_nobody c.lowest.ensures c.in-None.is
 
-pub returns-in-At : goal.returns-in-At
-returns-in-At c =
-    leaves_front c.lowest-found.ensures _ c.in-At.is c.pop_front-popped.result
+pub returns-in-Some : goal.returns-in-Some
+returns-in-Some c =
+    leaves_front c.lowest.ensures _ c.in-Some.is c.pop_front-popped.result
     c.pop_front-popped.ensures

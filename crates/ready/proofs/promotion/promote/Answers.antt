@@ -7,20 +7,20 @@ use Rattle.ready.proofs.promotion.promote.Goals.{After-drain-drained}
 pub loop-from-init : goal.loop-from-init
 loop-from-init c = promoting_starts c.requires
 
-pub lowest_from-found-requires : goal.lowest_from-found-requires
-lowest_from-found-requires c = promoting_asks c.loop-from.invariant (omega arith)
+pub lowest_from-requires : goal.lowest_from-requires
+lowest_from-requires c = promoting_asks c.loop-from.invariant (omega arith)
 
-pub returns-in-Nothing : goal.returns-in-Nothing
-returns-in-Nothing c = promoting_stops c.loop-from.invariant c.lowest_from-found.ensures c.in-Nothing.is
+pub returns-in-None : goal.returns-in-None
+returns-in-None c = promoting_stops c.loop-from.invariant c.lowest_from.ensures c.in-None.is
 
 pub drain-drained-requires : goal.drain-drained-requires
-drain-drained-requires c = promoting_drains c.loop-from.invariant c.lowest_from-found.ensures _ c.in-At.is
+drain-drained-requires c = promoting_drains c.loop-from.invariant c.lowest_from.ensures _ c.in-Some.is
 
 turned : (c : After-drain-drained) → let a = c in
-    Promoting a.args.tasks a.args.jobs a.args.time a.args.lists c.drain-drained.result.lists
-    (a.loop-from.total + c.drain-drained.result.moves) (c.in-At.level.0 + 1)
+    Promoting a.args.tasks a.args.jobs a.args.time a.args.lists c.drain-drained.result.now
+    (a.loop-from.total + c.drain-drained.result.moves) (c.in-Some.level.0 + 1)
 turned c =
-    promoting_turns c.loop-from.invariant c.lowest_from-found.ensures _ c.in-At.is
+    promoting_turns c.loop-from.invariant c.lowest_from.ensures _ c.in-Some.is
     c.drain-drained.result c.drain-drained.ensures
 
 pub overflow_add-total : goal.overflow_add-total
@@ -31,7 +31,7 @@ overflow_add-from c = omega (arith, (turned (goal.at.overflow_add-from c).After-
 
 pub loop-from-smaller : goal.loop-from-smaller
 loop-from-smaller c = let a = c in
-    omega (arith, promoting_level a.loop-from.invariant a.lowest_from-found.ensures _ c.in-At.is)
+    omega (arith, promoting_level a.loop-from.invariant a.lowest_from.ensures _ c.in-Some.is)
 
 pub loop-from-preserved : goal.loop-from-preserved
 loop-from-preserved c = turned (goal.at.loop-from-preserved c).After-drain-drained
