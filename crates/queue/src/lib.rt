@@ -155,8 +155,9 @@ pub fn active_as(count: usize, jobs: [Job; PLACES], seen: [bool; PLACES]) -> boo
     requires { count ≤ most }
     ensures { Decides result (ActiveAs count jobs seen) }
 {
-    for (i, job) in jobs[1..count + 1].iter().enumerate() {
-        if job.active != seen[i + 1] {
+    for k in 1..count + 1 {
+        let job = jobs[k];
+        if job.active != seen[k] {
             return false;
         }
     }

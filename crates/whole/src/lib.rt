@@ -62,7 +62,8 @@ fn jobs_whole(table: Table, jobs: [Job; PLACES], clock: u64) -> bool
     requires { table.count ≤ most }
     ensures { Decides result (JobsWhole table jobs clock) }
 {
-    for job in &jobs[1..table.count + 1] {
+    let held = &jobs[1..table.count + 1];
+    for job in held {
         if !is_dated(*job, clock) {
             return false;
         }

@@ -1,4 +1,4 @@
 use Rattle.whole.proofs.is_dated.Goals as goal
 
-pub returns-in-At : goal.returns-in-At
-returns-in-At c = rw c.in-At.is
+pub returns-in-Some : goal.returns-in-Some
+returns-in-Some c = rw c.in-Some.is

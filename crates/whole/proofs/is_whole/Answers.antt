@@ -21,7 +21,7 @@ tasks-told : (c : Else-not-tasks_whole) → TasksWhole c.args.tasks
 tasks-told c = told_true _ c.tasks_whole.result c.if-not-tasks_whole.false-raw c.tasks_whole.ensures
 
 held : (c : After-holds_lists) → Decides c.holds_lists.result (Holds c.args.ready.lists)
-held c = subst (λ (s : Stored). Decides c.holds_lists.result (Holds (lists_of s))) c.stored.ensures c.holds_lists.ensures
+held c = subst (λ (s : Stored). Decides c.holds_lists.result (Holds (lists_of s))) c.from.ensures c.holds_lists.ensures
 
 tested : (c : Else-not-holds_lists) → let a = c.args in TasksWhole a.tasks → Decides c.holds_lists.result (Holds a.ready.lists) → Tested a.tasks a.jobs a.ready a.clock
 tested c t h =

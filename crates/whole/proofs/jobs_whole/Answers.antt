@@ -1,12 +1,17 @@
-use mathlib.Core.Path.{◌≡◌, sym, ◌∙◌}
+use mathlib.Core.Path.{◌≡◌, sym, ap, subst, ◌∙◌}
+use mathlib.Core.Bool.{false}
 use native.Mathlib.Omega.{arith}
-use borrow.Author.Count.{below_more}
+use Prim.Native.Nat.{ℕ, zero, suc, ◌+◌, ◌-◌, ◌<◌, ◌≤◌}
+use mathlib.Core.List.{List}
 use borrow.Author.Rules.{rules}
-use borrow.Author.Tests.{not-true, not-false}
-use lib.ListN.{length}
+use lib.ListN.{length, take, drop, get_or}
 use Rattle.laws.proofs.Arrays.{long_map}
 use Rattle.laws.proofs.Bools.{true_false}
 use Rattle.rules.specs.Table.{most}
+use Rattle.std.proofs.lemmas.List.{get_or-take, get_or-drop}
+use Rattle.jobs.specs.declared.Job.{Job}
+use Rattle.jobs.specs.Kept.{last_in, no_job, job_at}
+use Rattle.whole.specs.Parts.{dated_by}
 use Rattle.whole.proofs.Dates.{dated_whole, whole_dated}
 use Rattle.whole.proofs.jobs_whole.Goals as goal
 use Rattle.whole.proofs.jobs_whole.Goals.{Start}
@@ -14,16 +19,24 @@ use Rattle.whole.proofs.jobs_whole.Goals.{Start}
 long : (c : Start) → length c.args.table.tasks ≡ most
 long c = search (rules, long_map)
 
-pub loop-k-init : goal.loop-k-init
-loop-k-init c = (search rules, search rules, λ j l low. let no : ⊥ = omega arith in absurd no)
+-- the place behind place 0, i further
+behind : (n : ℕ) (jobs : List Job) (i : ℕ) → i < n → get_or (take n (drop 1 jobs)) i no_job ≡ job_at jobs (suc i)
+behind n jobs i h = get_or-take n (drop 1 jobs) i no_job h ∙ get_or-drop 1 jobs i no_job ∙ ap (job_at jobs) (let e : 1 + i ≡ suc i = omega arith in e)
 
 pub returns-then-not-is_dated : goal.returns-then-not-is_dated
 returns-then-not-is_dated c = λ w.
-    let a = c in
-    true_false _ (whole_dated (long (goal.at.returns-then-not-is_dated c).Start) w c.loop-k.k (omega arith) (omega arith)) (sym c.is_dated.ensures ∙ not-true _ c.if-not-is_dated.true-raw)
+    let a = c.args in
+    let here : c.loop-job.job-index < a.table.count = search rules in
+    let e = behind (a.table.count + 1 - 1) a.jobs c.loop-job.job-index (omega arith) in
+    true_false _ (whole_dated (long (goal.at.returns-then-not-is_dated c).Start) w (suc c.loop-job.job-index) (omega arith) (omega arith))
+    (subst (λ (j : Job). dated_by j.active (last_in j.last) a.clock ≡ false) e (sym (c.if-not-is_dated.ensures)))
 
-pub loop-k-preserved : goal.loop-k-preserved
-loop-k-preserved c = (search rules, search rules, below_more _ _ c.loop-k.invariant.2 (λ low. sym c.is_dated.ensures ∙ not-false _ c.if-not-is_dated.false-raw))
+-- each place from 1 on, where each behind place 0 is told
+each : (P : ℕ → Type 0) (n : ℕ) → ((i : ℕ) → i < n → P (suc i)) → (k : ℕ) → 1 ≤ k → k ≤ n → P k
+each P n h zero low high = let no : ⊥ = omega arith in absurd no
+each P n h (suc i) low high = h i (omega arith)
 
 pub returns : goal.returns
-returns c = dated_whole (long (goal.at.returns c).Start) (λ k low high. c.loop-k.invariant.2 k (omega arith) low)
+returns c =
+    let all : c.loop-job.job-index ≡ c.args.table.count = search rules in
+    dated_whole (long (goal.at.returns c).Start) (each _ c.args.table.count (λ i h. c.loop-job.invariant i (omega arith)))

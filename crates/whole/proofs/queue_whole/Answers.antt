@@ -33,7 +33,7 @@ list_all-end-requires c = let h = c.requires.links in record { lists = h.lists; 
 
 pub returns-then-end-ne0 : goal.returns-then-end-ne0
 returns-then-end-ne0 c = λ q.
-    let none = (whole_none c.requires (ap who_in c.in-Nobody.is) (long (goal.at.returns-then-end-ne0 c).Start) q).1 in
+    let none = (whole_none c.requires (ap who_in c.in-None.is) (long (goal.at.returns-then-end-ne0 c).Start) q).1 in
     omega (arith, listed_none _ (listed (goal.at.returns-then-end-ne0 c).After-list_all-end) none)
 
 pub active_as-requires : goal.active_as-requires
@@ -44,12 +44,12 @@ runs_whole-requires c = (c.requires.datable, (read (goal.at.runs_whole-requires 
 
 pub returns-else-end-ne0 : goal.returns-else-end-ne0
 returns-else-end-ne0 c =
-    let run = ap who_in c.in-Nobody.is in
+    let run = ap who_in c.in-None.is in
     let none = none_listed _ (listed (goal.at.returns-else-end-ne0 c).After-list_all-end) (omega arith) in
     decides_same _ _ c.active_as.result (none_whole c.requires run none (long (goal.at.returns-else-end-ne0 c).Start)) (λ q. (whole_none c.requires run (long (goal.at.returns-else-end-ne0 c).Start) q).0) c.active_as.ensures
 
-pub returns-in-One : goal.returns-in-One
-returns-in-One c =
-    let run = ap who_in c.in-One.is in
-    let r = read (goal.at.returns-in-One c).After-list_all-end in
-    decides_same _ _ c.runs_whole.result (runs_whole c.requires run r (long (goal.at.returns-in-One c).Start)) (whole_runs c.requires run r (long (goal.at.returns-in-One c).Start)) c.runs_whole.ensures
+pub returns-in-Some : goal.returns-in-Some
+returns-in-Some c =
+    let run = ap who_in c.in-Some.is in
+    let r = read (goal.at.returns-in-Some c).After-list_all-end in
+    decides_same _ _ c.runs_whole.result (runs_whole c.requires run r (long (goal.at.returns-in-Some c).Start)) (whole_runs c.requires run r (long (goal.at.returns-in-Some c).Start)) c.runs_whole.ensures
