@@ -35,7 +35,7 @@ pub fn in_table(count: usize, task: TaskNo) -> bool
     1 <= task.0 && task.0 as usize <= count
 }
 
-// The time of a release; 0 where there was none.
+// The time of a release; 0 where there was none. It is a `match`, since `unwrap_or` is library code, which kernel/proofs/Answered does not run.
 pub fn time_of(last: Option<u64>) -> u64
     ensures { result ≡ time_of (last_in last) }
 {
@@ -51,10 +51,7 @@ pub fn deadline(table: Table, jobs: [Job; PLACES], task: TaskNo) -> u64
     ensures { result ≡ deadline_of (table_of table) (released_in table jobs) task.0 }
 {
     let k = task.0 as usize;
-    let job = jobs[k];
-    let last = job.last;
-    let entry = table.tasks[k - 1];
-    time_of(last) + entry.d as u64
+    time_of(jobs[k].last) + table.tasks[k - 1].d as u64
 }
 
 // The time that remains to the deadline of the task's job.
@@ -70,7 +67,6 @@ pub fn level_of(tasks: Tasks, jobs: [Job; PLACES], time: u64, task: TaskNo) -> L
     requires { Levelled tasks jobs time task.0 }
     ensures { result.0 ≡ levels_at tasks jobs time task.0 }
 {
-    let table = tasks.table;
-    let left = time_left(table, jobs, time, task);
-    level_in(table.count, &tasks.rising, left)
+    let left = time_left(tasks.table, jobs, time, task);
+    level_in(tasks.table.count, &tasks.rising, left)
 }

@@ -12,9 +12,6 @@ use Rattle.jobs.proofs.level_of.Goals.{Start}
 long : (c : Start) → length c.args.tasks.table.tasks ≡ most
 long c = search (rules, long_map)
 
-pub time_left-left-requires : goal.time_left-left-requires
-time_left-left-requires c = let a = c in (a.requires.dated, a.requires.high)
-
 pub level_in-requires : goal.level_in-requires
 level_in-requires c = let a = c in
     record { table = table_of a.args.tasks.table; copy_of = a.requires.copy; size = table_length a.args.tasks.table (long (goal.at.level_in-requires c).Start) }
