@@ -42,7 +42,7 @@ use Rattle.jobs.specs.declared.Tasks.{Tasks}
 use Rattle.jobs.specs.Kept.{last_in, job_at, released_in, levels_at, Dated, Levelled}
 use Rattle.jobs.proofs.Keeping.{dated_small, stored_released, stored_active, stored_free}
 use Rattle.ready.specs.declared.Ready.{Ready}
-use Rattle.ready.specs.declared.Releveled.{Releveled}
+use Rattle.ready.specs.declared.promotion.Promoted.{Promoted}
 use Rattle.ready.specs.Keep.{Keeps, Relevels, MayWait, Enterable}
 use Rattle.ready.specs.Promote.{Promotable}
 use Rattle.ready.proofs.Results.{kept_is}
@@ -162,7 +162,7 @@ module _ {b : Block} {c : Call} {time : ℕ} (g : Goes b c time) where
         }
 
   -- the lists are those of the new levels, and the moves are counted
-  module _ (x : Releveled) (done : Relevels (levels_at b.tasks b.jobs time) b.ready x) where
+  module _ (x : Promoted Ready) (done : Relevels (levels_at b.tasks b.jobs time) b.ready x) where
     few : length s.table ≤ suc (most - 1)
     few = omega (arith, passed_to_3 s.table g.whole.tasks_whole.table)
 
@@ -172,13 +172,13 @@ module _ {b : Block} {c : Call} {time : ℕ} (g : Goes b c time) where
     pub releveled_moves : x.moves ≡ moves_of s time
     releveled_moves = done.moves s.ready held ∙ promotion_moves s state time later (Rules.level_in s time) (λ j k m. refl) (most - 1) few
 
-    pub releveled_keeps : Keeps x.ready now.ready
+    pub releveled_keeps : Keeps x.now now.ready
     releveled_keeps =
         let kept = done.keeps s.ready held in
         record {
           running = kept.running;
           stores =
-              subst (Stores x.ready.lists) (promotion_in_place s state time later (Rules.level_in s time) (λ j k m. refl) (most - 1) few) kept.stores;
+              subst (Stores x.now.lists) (promotion_in_place s state time later (Rules.level_in s time) (λ j k m. refl) (most - 1) few) kept.stores;
         }
 
 -- ---- clock: "nothing more"

@@ -18,23 +18,16 @@ use Rattle.jobs.specs.declared.Tasks.{Tasks}
 use Rattle.kernel.specs.declared.Block.{Block}
 use Rattle.kernel.specs.declared.Called.{Called}
 use Rattle.kernel.specs.declared.Refusal.{Refusal}
-use Rattle.kernel.specs.declared.Refusal.TheVariants as Refusal
-use Rattle.kernel.specs.declared.Answer.{Answer}
-use Rattle.kernel.specs.declared.Answer.TheVariants as Answer
-use Rattle.kernel.specs.declared.asks.Listed.{Listed}
-use Rattle.kernel.specs.declared.asks.Listed.TheVariants as Listed
-use Rattle.kernel.specs.declared.asks.Asked.{Asked}
-use Rattle.kernel.specs.declared.asks.Asked.TheVariants as Asked
-use Rattle.kernel.specs.declared.asks.Planned.{Planned}
+use Rattle.kernel.specs.declared.Accepted.{Accepted}
 use Rattle.kernel.specs.Block.{Sizes, SameTasks}
 use Rattle.kernel.specs.Answers.{refusal_in, margin_in, answer_in}
 use Rattle.clock.specs.Advance.{Advanced}
 use Rattle.kernel.specs.Tests.{checked_in}
 use Rattle.kernel.specs.Calls.{Does, Gives, GivesBy}
-use Rattle.kernel.specs.Asks.{listed_in, GivesListing, asked_in, PlansAs, GivesPlan}
+use Rattle.kernel.specs.Asks.{listed_in, GivesListing, PlansAs, GivesPlan}
 use Rattle.kernel.proofs.Views.{blocks_one}
 use Rattle.kernel.proofs.Fifteen.{both_15}
-use Rattle.std.specs.Prelude.{Err, None, Ok, Option, Result, Some}
+use Rattle.std.specs.Prelude.{ℤ, Err, None, Ok, Option, Result, Some}
 
 -- ---- what an answer says determines it
 
@@ -42,7 +35,7 @@ use Rattle.std.specs.Prelude.{Err, None, Ok, Option, Result, Some}
 refusal_by : ℕ → Refusal
 refusal_by n =
     pick (eqb n 5) Refusal.CounterWentBack (pick (eqb n 6) Refusal.ClockFull (pick (eqb n 7) Refusal.NoSuchTask
-    (pick (eqb n 8) Refusal.TaskActive (pick (eqb n 9) Refusal.TooSoon (pick (eqb n 10) Refusal.NotRunning Refusal.NotWhole)))))
+    (pick (eqb n 8) Refusal.TaskActive (pick (eqb n 9) Refusal.TooSoon (pick (eqb n 10) Refusal.NotRunning (pick (eqb n 11) Refusal.BufferTooShort Refusal.NotWhole))))))
 
 refusal_same : (q : Refusal) → refusal_by (Numbers.number_of (refusal_in q)) ≡ q
 unfolding refusal_by
@@ -53,6 +46,7 @@ refusal_same Refusal.NoSuchTask = refl
 refusal_same Refusal.TaskActive = refl
 refusal_same Refusal.TooSoon = refl
 refusal_same Refusal.NotRunning = refl
+refusal_same Refusal.BufferTooShort = refl
 
 -- the paper's number determines it
 pub refusal_one : (p q : Refusal) → Numbers.number_of (refusal_in p) ≡ Numbers.number_of (refusal_in q) → p ≡ q
@@ -64,17 +58,17 @@ margin_one None (Some t) e = clash cc
 margin_one (Some t) None e = clash cc
 margin_one (Some t) (Some u) e = cc
 
-pub answer_one : (a b : Answer) → answer_in a ≡ answer_in b → a ≡ b
-answer_one (Answer.Accepted w m g) (Answer.Accepted v n h) e =
-    let same_runs : who_in w ≡ who_in v = cc in
-    let same-moves : m ≡ n = cc in
-    let same-margin : margin_in g ≡ margin_in h = cc in
-    λ i. Answer.Accepted (who_one w v same_runs i) (same-moves i) (margin_one g h same-margin i)
-answer_one (Answer.Accepted w m g) (Answer.Refused q) e = clash cc
-answer_one (Answer.Refused q) (Answer.Accepted w m g) e = clash cc
-answer_one (Answer.Refused p) (Answer.Refused q) e =
+pub answer_one : (a b : Result Accepted Refusal) → answer_in a ≡ answer_in b → a ≡ b
+answer_one (Ok a) (Ok b) e =
+    let same_runs : who_in a.running ≡ who_in b.running = cc in
+    let same-moves : a.moves ≡ b.moves = cc in
+    let same-margin : margin_in a.margin ≡ margin_in b.margin = cc in
+    λ i. Ok (record { running = who_one a.running b.running same_runs i; moves = same-moves i; margin = margin_one a.margin b.margin same-margin i })
+answer_one (Ok a) (Err q) e = clash cc
+answer_one (Err q) (Ok a) e = clash cc
+answer_one (Err p) (Err q) e =
     let same : refusal_in p ≡ refusal_in q = cc in
-    ap Answer.Refused (refusal_one p q (ap Numbers.number_of same))
+    ap Err (refusal_one p q (ap Numbers.number_of same))
 
 -- 0 where the tests passed, 1 where one failed
 abbrev failed : Numbers.Verdict → ℕ
@@ -94,7 +88,7 @@ module _ (b : Block) (c : Calls.Call) (r x : Called) (long : Sizes r.block) (wid
   -- of a whole block
   pub does_one : Does b c r → Does b c x → x ≡ r
   does_one d e =
-      ap₂ (λ (a : Answer) (y : Block). record { answer = a; block = y }) (answer_one x.answer r.answer (e.answer ∙ sym d.answer))
+      ap₂ (λ (a : Result Accepted Refusal) (y : Block). record { answer = a; block = y }) (answer_one x.answer r.answer (e.answer ∙ sym d.answer))
       (blocks_one long wide d.whole e.whole both (e.view ∙ sym d.view))
     where
       both : SameTasks r.block x.block
@@ -117,44 +111,44 @@ module _ (b : Block) (c : Calls.Call) (r x : Called) (long : Sizes r.block) (wid
 -- ---- the listing and the plan
 
 -- the answer with this number, and so many waiting
-listed_by : ℕ → ℕ → Listed
-listed_by number n = pick (eqb number 0) (Listed.Waiting n) (pick (eqb number 11) Listed.BufferTooShort Listed.NotWhole)
+listed_by : ℕ → ℕ → Result ℕ Refusal
+listed_by number n = pick (eqb number 0) (Ok n) (Err (refusal_by number))
 
-listed_same : (r : Listed) (buffer : List ℕ) → listed_by (Numbers.number_in (listed_in r buffer).verdict) (listed_in r buffer).waiting ≡ r
+listed_same : (r : Result ℕ Refusal) (buffer : List ℕ) → listed_by (Numbers.number_in (listed_in r buffer).verdict) (listed_in r buffer).waiting ≡ r
 unfolding listed_by
-listed_same (Listed.Waiting n) buffer = refl
-listed_same Listed.NotWhole buffer = refl
-listed_same Listed.BufferTooShort buffer = refl
+listed_same (Ok n) buffer = refl
+listed_same (Err q) buffer = refused q (refusal_same q)
+  where
+    refused : (q : Refusal) → refusal_by (Numbers.number_of (refusal_in q)) ≡ q → listed_by (Numbers.number_of (refusal_in q)) 0 ≡ Err q
+    refused Refusal.NotWhole e = ap Err e
+    refused Refusal.CounterWentBack e = ap Err e
+    refused Refusal.ClockFull e = ap Err e
+    refused Refusal.NoSuchTask e = ap Err e
+    refused Refusal.TaskActive e = ap Err e
+    refused Refusal.TooSoon e = ap Err e
+    refused Refusal.NotRunning e = ap Err e
+    refused Refusal.BufferTooShort e = ap Err e
 
 -- the buffer is what an answer says that it is
-pub buffer_is : (r : Listed) (buffer : List ℕ) → (listed_in r buffer).buffer ≡ buffer
-buffer_is (Listed.Waiting n) buffer = refl
-buffer_is Listed.NotWhole buffer = refl
-buffer_is Listed.BufferTooShort buffer = refl
+pub buffer_is : (r : Result ℕ Refusal) (buffer : List ℕ) → (listed_in r buffer).buffer ≡ buffer
+buffer_is (Ok n) buffer = refl
+buffer_is (Err q) buffer = refl
 
 -- of what they say there is one answer and one buffer
-pub listed_one : (r x : Listed) (after last : List ℕ) → listed_in x last ≡ listed_in r after → (x ≡ r) × (last ≡ after)
+pub listed_one : (r x : Result ℕ Refusal) (after last : List ℕ) → listed_in x last ≡ listed_in r after → (x ≡ r) × (last ≡ after)
 listed_one r x after last e = (
   sym (listed_same x last) ∙ ap (λ (y : Rules.ListingAnswer). listed_by (Numbers.number_in y.verdict) y.waiting) e ∙ listed_same r after,
   sym (buffer_is x last) ∙ ap (λ (y : Rules.ListingAnswer). y.buffer) e ∙ buffer_is r after,
 )
 
-pub listing_one : (b : Block) (before : List ℕ) (r x : Listed) (after last : List ℕ) → GivesListing b before r after → GivesListing b before x last → (x ≡ r) × (last ≡ after)
+pub listing_one : (b : Block) (before : List ℕ) (r x : Result ℕ Refusal) (after last : List ℕ) → GivesListing b before r after → GivesListing b before x last → (x ≡ r) × (last ≡ after)
 listing_one b before r x after last = both_15 ((x ≡ r) × (last ≡ after)) (λ w p q. listed_one r x after last (q ∙ sym p))
 
-asked_by : ℕ → Asked
-asked_by number = pick (eqb number 0) Asked.Given (pick (eqb number 7) Asked.NoSuchTask Asked.NotWhole)
+pub plans_one : (y : Calls.PlanAnswer) (r x : Result Plan Refusal) → PlansAs y r → PlansAs y x → x ≡ r
+plans_one y (Ok p) (Ok q) a b = ap Ok (b.plan ∙ sym a.plan)
+plans_one y (Ok p) (Err s) a b = let e = a.answer ∙ sym b.answer in clash cc
+plans_one y (Err r) (Ok q) a b = let e = a.answer ∙ sym b.answer in clash cc
+plans_one y (Err r) (Err s) a b = ap Err (refusal_one s r (ap Numbers.number_in (b.answer ∙ sym a.answer)))
 
-asked_same : (r : Asked) → asked_by (Numbers.number_in (asked_in r)) ≡ r
-unfolding asked_by
-asked_same Asked.Given = refl
-asked_same Asked.NotWhole = refl
-asked_same Asked.NoSuchTask = refl
-
-pub plans_one : (y : Calls.PlanAnswer) (r x : Planned) → PlansAs y r → PlansAs y x → x ≡ r
-plans_one y r x p q =
-    ap₂ (λ (a : Asked) (z : Plan). record { answer = a; plan = z })
-    (sym (asked_same x.answer) ∙ ap (λ (v : Numbers.Verdict). asked_by (Numbers.number_in v)) (q.answer ∙ sym p.answer) ∙ asked_same r.answer) (q.plan ∙ sym p.plan)
-
-pub plan_one : (b : Block) (k : ℕ) (r x : Planned) → GivesPlan b k r → GivesPlan b k x → x ≡ r
+pub plan_one : (b : Block) (k : ℕ) (r x : Result Plan Refusal) → GivesPlan b k r → GivesPlan b k x → x ≡ r
 plan_one b k r x = both_15 (x ≡ r) (λ w p q. plans_one _ r x p q)

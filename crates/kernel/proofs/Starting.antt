@@ -1,7 +1,7 @@
 -- What start gives back: the rules' start where the table is sound, and zeros where it is not. Assumes nothing.
 use mathlib.Core.Path.{◌≡◌, refl, sym, ap, ◌∙◌, subst, fun_ext}
 use mathlib.Core.Bool.{Bool, true, false, and-false}
-use mathlib.Core.List.{List, [], ◌∷◌, ◌++◌}
+use mathlib.Core.List.{List, [], ◌++◌}
 use Prim.Native.Nat.{ℕ, zero, suc, ◌-◌}
 use native.Mathlib.Omega.{arith}
 use lib.ListN.{length, take, replicate}
@@ -15,10 +15,10 @@ use Rattle.rules.proofs.Verdicts.{verdict_cases}
 use Rattle.rules.proofs.Tables.{passed_to_3}
 use Rattle.rules.proofs.Wholes.{whole_start}
 use Rattle.table.specs.declared.Table.{Table}
-use Rattle.table.specs.declared.Verdict.{Verdict}
-use Rattle.table.specs.declared.Verdict.TheVariants as Verdict
-use Rattle.table.specs.Stored.{table_of, verdict_in}
-use Rattle.table.proofs.Tests.{table_length, verdict_one, not_sound}
+use Rattle.table.specs.declared.TableRefusal.{TableRefusal}
+use Rattle.std.specs.Prelude.{Ok, Err}
+use Rattle.table.specs.Stored.{table_of, table_refusal_in}
+use Rattle.table.proofs.Tests.{table_length, verdict_one}
 use Rattle.levels.proofs.Copies.{laid_first}
 use Rattle.lists.specs.Links.{Sized}
 use Rattle.lists.specs.Answers.{who_in}
@@ -38,13 +38,13 @@ use Rattle.kernel.specs.Start.{Fresh, laid_down, no_tasks, StartsBy, Starts}
 
 module _ (table : Table) (reading : ℕ) where
   pub starts_sound : {b : Block} {copy : List ℕ} → verdict_of (table_of table) ≡ Passed → copy ≡ rising_of (table_of table) ++ replicate (most - table.count) 0
-      → Fresh (record { table = table; rising = copy }) reading b → Starts table reading (record { verdict = Verdict.Sound; block = b })
+      → Fresh (record { table = table; rising = copy }) reading b → Starts table reading (record { verdict = Ok tt; block = b })
   starts_sound {b} e laid f =
       record { verdict = sym e; block = rw e (subst (λ (q : List ℕ). Fresh (record { table = table; rising = q }) reading b) laid f) }
 
-  pub starts_refused : (v : Verdict) {b : Block} {tasks : Tasks} → (v ≡ Verdict.Sound → ⊥) → verdict_in v ≡ verdict_of (table_of table)
-      → tasks ≡ no_tasks → Fresh tasks 0 b → Starts table reading (record { verdict = v; block = b })
-  starts_refused v {b} h e none f = record { verdict = e; block = rw (sym e ∙ (not_sound v h).1) (subst (λ (t : Tasks). Fresh t 0 b) none f) }
+  pub starts_refused : (r : TableRefusal) {b : Block} {tasks : Tasks} → Failed (table_refusal_in r) ≡ verdict_of (table_of table)
+      → tasks ≡ no_tasks → Fresh tasks 0 b → Starts table reading (record { verdict = Err r; block = b })
+  starts_refused r {b} e none f = record { verdict = e; block = rw (sym e) (subst (λ (t : Tasks). Fresh t 0 b) none f) }
 
 -- ---- the view of a block where nothing has happened yet
 

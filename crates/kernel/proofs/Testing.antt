@@ -14,26 +14,24 @@ use Rattle.rules.specs.Calls.{Call, Clock, reading_of, time_at, too_soon, is_run
 use Rattle.rules.proofs.Verdicts.{first_append, first_append_failed}
 use Rattle.table.specs.declared.TaskNo.{TaskNo}
 use Rattle.table.proofs.Tests.{nth}
-use Rattle.clock.specs.Advance.{Advanced, advanced_by, advance_of, advanced_in}
-use Rattle.clock.specs.declared.Moved.{Moved}
+use Rattle.clock.specs.Advance.{Advanced, advanced_by, advance_of}
 use Rattle.clock.proofs.Answers.{verdict_kept, time_kept}
 use Rattle.lists.specs.Answers.{who_in}
 use Rattle.jobs.specs.Kept.{last_in, job_at, Dated}
 use Rattle.jobs.proofs.Keeping.{task_asked, dated_entry}
 use Rattle.kernel.specs.declared.Block.{Block}
 use Rattle.kernel.specs.declared.Refusal.{Refusal}
-use Rattle.kernel.specs.declared.Refusal.TheVariants as Refusal
 use Rattle.kernel.specs.Block.{view_of, Whole}
 use Rattle.kernel.specs.Answers.{refusal_in}
 use Rattle.kernel.specs.Tests.{checked_in, go_on, checked_of}
-use Rattle.std.specs.Prelude.{Err, None, Ok, Option, Result, Some}
+use Rattle.std.specs.Prelude.{Err, Ok, Option, Result, Some}
 
 -- ---- tests 5 and 6, and those behind them
 
 -- the clock's answer is that of the clock call's tests
-pub clock_answered : (s : State) (n : ℕ) {a b : Moved} → a ≡ b → advanced_in a ≡ advance_of s.clock s.reading n → advanced_in b ≡ checked_of s (Clock n)
+pub clock_answered : (s : State) (n : ℕ) {x : Advanced} → x ≡ advance_of s.clock s.reading n → x ≡ checked_of s (Clock n)
 unfolding advance_of tests_of
-clock_answered s n e h = ap advanced_in (sym e) ∙ h
+clock_answered s n h = h
 
 -- a call's tests 5 and 6
 abbrev early : State → Call → List Test

@@ -4,7 +4,6 @@ use Rattle.rules.specs.Numbers as Numbers
 use Rattle.rules.specs.Calls as Calls
 use Rattle.lists.specs.Answers.{who_in}
 use Rattle.kernel.specs.declared.Refusal.{Refusal}
-use Rattle.kernel.specs.declared.Refusal.TheVariants as Refusal
 use Rattle.kernel.specs.declared.Accepted.{Accepted}
 
 abbrev pub refusal_in : Refusal → Numbers.Refusal

@@ -7,7 +7,7 @@ ghost use Rattle.kernel.specs.Calls.{Goes, Does, refused_as, accepted_as};
 
 use super::{Accepted, Block, Called, Now, Refusal};
 use jobs::{Job, time_left};
-use ready::Ready;
+use ready::{Promoted, Ready};
 use table::TaskNo;
 
 impl Block {
@@ -59,14 +59,17 @@ impl Block {
         requires { Goes self (Release reading task.0) time }
         ensures { Does self (Release reading task.0) result }
     {
-        let waiting = self.ready.relevel(self.tasks, self.jobs, time);
+        let Promoted {
+            now: waiting,
+            moves,
+        } = self.ready.relevel(self.tasks, self.jobs, time);
         let k = task.0 as usize;
         self.jobs[k] = Job {
             active: true,
             last: Some(time),
         };
-        let after = waiting.now.enter(self.tasks, self.jobs, time, task);
-        self.accepted(after, time, reading, waiting.moves, None)
+        let after = waiting.enter(self.tasks, self.jobs, time, task);
+        self.accepted(after, time, reading, moves, None)
     }
 
     // The running job, which is this task's, ends.
@@ -75,15 +78,18 @@ impl Block {
         ensures { Does self (Done reading task.0) result }
     {
         let margin = time_left(self.tasks.table, self.jobs, time, task);
-        let waiting = self.ready.relevel(self.tasks, self.jobs, time);
+        let Promoted {
+            now: waiting,
+            moves,
+        } = self.ready.relevel(self.tasks, self.jobs, time);
         let k = task.0 as usize;
         let job = self.jobs[k];
         self.jobs[k] = Job {
             active: false,
             last: job.last,
         };
-        let after = waiting.now.leave();
-        self.accepted(after, time, reading, waiting.moves, Some(margin))
+        let after = waiting.leave();
+        self.accepted(after, time, reading, moves, Some(margin))
     }
 
     // The clock has moved, and nothing more.
@@ -91,8 +97,8 @@ impl Block {
         requires { Goes self (Clock reading) time }
         ensures { Does self (Clock reading) result }
     {
-        let waiting = self.ready.relevel(self.tasks, self.jobs, time);
-        self.accepted(waiting.now, time, reading, waiting.moves, None)
+        let Promoted { now: after, moves } = self.ready.relevel(self.tasks, self.jobs, time);
+        self.accepted(after, time, reading, moves, None)
     }
 
     // Who runs and who waits, the time and the reading are stored; the answer says who runs.

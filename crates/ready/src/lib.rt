@@ -71,15 +71,12 @@ impl Ready {
         requires { Promotable tasks jobs time self.lists }
         ensures { Relevels (levels_at tasks jobs time) self result }
     {
-        let promoted = promote(tasks, jobs, time, self.lists);
+        let Promoted { now: lists, moves } = promote(tasks, jobs, time, self.lists);
         let ready = Ready {
             running: self.running,
-            lists: promoted.now,
+            lists,
         };
-        Promoted {
-            now: ready,
-            moves: promoted.moves,
-        }
+        Promoted { now: ready, moves }
     }
 
     // "If nothing runs, it runs. If its level is lower than the running job's level at this time, it runs and the former goes to the

@@ -14,14 +14,19 @@ use table::{Level, MOST, PLACES, TaskNo};
 const JOBS: u32 = MOST as u32;
 
 // What is kept after jobs have moved, and how many did.
-#[derive(Clone, Copy)]
 pub struct Promoted<T> {
     pub now: T,
     pub moves: u32,
 }
 
 // The level that the job of this task, which waits at this level, leaves it for; nothing where it stays.
-fn next_of(tasks: Tasks, jobs: [Job; PLACES], time: u64, level: Level, task: TaskNo) -> Option<Level>
+fn next_of(
+    tasks: Tasks,
+    jobs: [Job; PLACES],
+    time: u64,
+    level: Level,
+    task: TaskNo,
+) -> Option<Level>
     requires { Leaves tasks jobs time level.0 task.0 }
     ensures { result ≡ goes_to level.0 (levels_at tasks jobs time task.0) }
 {
@@ -34,7 +39,13 @@ fn next_of(tasks: Tasks, jobs: [Job; PLACES], time: u64, level: Level, task: Tas
 }
 
 // The same for the front job of the level's list, where there is one.
-fn front_next(tasks: Tasks, jobs: [Job; PLACES], time: u64, lists: Lists, level: Level) -> Option<Level>
+fn front_next(
+    tasks: Tasks,
+    jobs: [Job; PLACES],
+    time: u64,
+    lists: Lists,
+    level: Level,
+) -> Option<Level>
     requires { Drainable tasks jobs time lists level.0 }
     ensures { (ls : ℕ → List ℕ) → Stores lists ls → result ≡ front_goes (levels_at tasks jobs time) level.0 (ls level.0) }
 {
@@ -45,7 +56,13 @@ fn front_next(tasks: Tasks, jobs: [Job; PLACES], time: u64, lists: Lists, level:
 }
 
 // The front jobs of the level's list go to the ends of the lists of their new levels, up to the first that stays.
-fn drain(tasks: Tasks, jobs: [Job; PLACES], time: u64, lists: Lists, level: Level) -> Promoted<Lists>
+fn drain(
+    tasks: Tasks,
+    jobs: [Job; PLACES],
+    time: u64,
+    lists: Lists,
+    level: Level,
+) -> Promoted<Lists>
     requires { Drainable tasks jobs time lists level.0 }
     ensures { (ls : ℕ → List ℕ) → Stores lists ls → DrainedTo (levels_at tasks jobs time) level.0 ls result }
 {
@@ -79,9 +96,12 @@ pub fn promote(tasks: Tasks, jobs: [Job; PLACES], time: u64, lists: Lists) -> Pr
                 return Promoted { now, moves: total };
             }
             Some(level) => {
-                let drained = drain(tasks, jobs, time, now, level);
-                now = drained.now;
-                total += drained.moves;
+                let Promoted {
+                    now: drained,
+                    moves,
+                } = drain(tasks, jobs, time, now, level);
+                now = drained;
+                total += moves;
                 from = level.0 + 1;
             }
         }

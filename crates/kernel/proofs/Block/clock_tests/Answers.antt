@@ -1,11 +1,15 @@
+use mathlib.Core.Path.{ap, ◌∙◌}
+use Rattle.rules.specs.Numbers as Numbers
+use Rattle.clock.specs.Advance.{Advanced}
 use Rattle.kernel.proofs.Testing.{clock_answered}
 use Rattle.kernel.proofs.Block.clock_tests.Goals as goal
 
-pub returns-in-To : goal.returns-in-To
-returns-in-To c = clock_answered _ _ c.in-To.is c.advance-moved.ensures
+abbrev refused_at : Numbers.Refusal → Advanced
+refused_at q = record { verdict = Numbers.Failed q; time = 0 }
 
-pub returns-in-CounterWentBack : goal.returns-in-CounterWentBack
-returns-in-CounterWentBack c = clock_answered _ _ c.in-CounterWentBack.is c.advance-moved.ensures
+pub returns-in-Ok : goal.returns-in-Ok
+returns-in-Ok c = clock_answered _ _ (c.in-Ok.ensures)
 
-pub returns-in-ClockFull : goal.returns-in-ClockFull
-returns-in-ClockFull c = clock_answered _ _ c.in-ClockFull.is c.advance-moved.ensures
+pub returns-in-Err : goal.returns-in-Err
+returns-in-Err c =
+    clock_answered _ _ (ap refused_at c.from.ensures ∙ c.in-Err.ensures)

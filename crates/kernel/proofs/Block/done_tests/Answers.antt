@@ -4,9 +4,9 @@ use Rattle.rules.specs.Calls.{done_tests}
 use Rattle.kernel.proofs.Testing.{refused_early, goes_on}
 use Rattle.kernel.proofs.Block.done_tests.Goals as goal
 
-pub returns-in-No : goal.returns-in-No
-returns-in-No c = refused_early _ _ _ c.clock_tests-checked.ensures c.in-No.is
+pub returns-in-Err : goal.returns-in-Err
+returns-in-Err c = refused_early _ _ _ c.clock_tests.ensures c.in-Err.is
 
-pub returns-in-Go : goal.returns-in-Go
-returns-in-Go c = let a = c in
-    c.may_end.ensures ∙ goes_on _ _ _ c.clock_tests-checked.ensures (λ t. done_tests (view_of a.args.self) a.args.task.0) refl c.in-Go.is
+pub returns-in-Ok : goal.returns-in-Ok
+returns-in-Ok c = let a = c in
+    c.may_end.ensures ∙ goes_on _ _ _ c.clock_tests.ensures (λ t. done_tests (view_of a.args.self) a.args.task.0) refl c.in-Ok.is

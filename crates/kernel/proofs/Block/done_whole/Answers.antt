@@ -2,8 +2,8 @@ use Rattle.kernel.proofs.Commits.{goes, refuses}
 use Rattle.kernel.proofs.Block.done_whole.Goals as goal
 
 pub ended-requires : goal.ended-requires
-ended-requires c = let b = c in goes _ _ b.requires _ b.done_tests-checked.ensures c.in-Go.is
+ended-requires c = let b = c in goes _ _ b.requires _ b.done_tests.ensures c.in-Ok.is
 
-pub returns-in-No : goal.returns-in-No
-returns-in-No c = let b = c in
-    refuses _ _ b.requires _ b.done_tests-checked.ensures c.in-No.is c.refused.ensures
+pub returns-in-Err : goal.returns-in-Err
+returns-in-Err c = let b = c in
+    refuses _ _ b.requires _ b.done_tests.ensures c.in-Err.is c.refused.ensures

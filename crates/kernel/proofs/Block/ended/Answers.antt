@@ -18,8 +18,8 @@ jobs c = search (rules, long_map)
 pub time_left-margin-requires : goal.time_left-margin-requires
 time_left-margin-requires c = running_dated c.requires
 
-pub relevel-releveled-requires : goal.relevel-releveled-requires
-relevel-releveled-requires c = let a = c in promotable a.requires (tasks (goal.at.relevel-releveled-requires c).Start) _ (search (rules, ticks a.requires))
+pub relevel-moves-requires : goal.relevel-moves-requires
+relevel-moves-requires c = let a = c in promotable a.requires (tasks (goal.at.relevel-moves-requires c).Start) _ (search (rules, ticks a.requires))
 
 pub bounds-self-k : goal.bounds-self-k
 bounds-self-k c = let a = c in omega (arith, place a.requires (jobs (goal.at.bounds-self-k c).Start) a.args.task.0 (running_task a.requires), jobs (goal.at.bounds-self-k c).Start)
@@ -29,12 +29,12 @@ bounds-self-k-2 c = let a = c in omega (arith, place a.requires (jobs (goal.at.b
 
 pub leave-after-requires : goal.leave-after-requires
 leave-after-requires c = let a = c in
-    let x = c.relevel-releveled in
+    let x = c.relevel-moves in
     record { ready = _; keeps = releveled_keeps a.requires x.result x.ensures }
 
 pub returns : goal.returns
 returns c = let a = c in
-    let x = c.relevel-releveled in
+    let x = c.relevel-moves in
     let t = c.time_left-margin in
     let l = c.leave-after in
     ended_does a.requires (jobs (goal.at.returns c).Start) _ (margin_held a.requires t.result t.ensures) _ (releveled_moves a.requires x.result x.ensures) l.result

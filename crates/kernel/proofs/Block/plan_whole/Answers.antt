@@ -23,7 +23,7 @@ dated c l = asked_dated c.args.self l c.args.task.0 c.in_table.ensures c.require
 pub returns-then-not-in_table : goal.returns-then-not-in_table
 returns-then-not-in_table c = let a = c.args in
     plan_none (view_of a.self) a.task.0
-    (asked_none a.self (long (goal.at.returns-then-not-in_table c).Start) a.task.0 c.in_table.ensures c.if-not-in_table.true-raw) c.no_plan.ensures
+    (asked_none a.self (long (goal.at.returns-then-not-in_table c).Start) a.task.0 c.in_table.ensures c.if-not-in_table.true-raw)
 
 pub overflow_sub-entry : goal.overflow_sub-entry
 overflow_sub-entry c = omega (arith, dated_task (dated (goal.at.overflow_sub-entry c).Else-not-in_table (long (goal.at.overflow_sub-entry c).Start)) (long (goal.at.overflow_sub-entry c).Start))
@@ -31,11 +31,11 @@ overflow_sub-entry c = omega (arith, dated_task (dated (goal.at.overflow_sub-ent
 pub bounds-table-k : goal.bounds-table-k
 bounds-table-k c = omega (arith, dated_task (dated (goal.at.bounds-table-k c).Else-not-in_table (long (goal.at.bounds-table-k c).Start)) (long (goal.at.bounds-table-k c).Start))
 
-pub plan_of-plan-requires : goal.plan_of-plan-requires
-plan_of-plan-requires c = let table = c.args.self.tasks.table in
-    record { table = table_of table; copy_of = copy_viewed c.args.self c.requires (long (goal.at.plan_of-plan-requires c).Start); size = table_length table (long (goal.at.plan_of-plan-requires c).Start) }
+pub plan_of-requires : goal.plan_of-requires
+plan_of-requires c = let table = c.args.self.tasks.table in
+    record { table = table_of table; copy_of = copy_viewed c.args.self c.requires (long (goal.at.plan_of-requires c).Start); size = table_length table (long (goal.at.plan_of-requires c).Start) }
 
 pub returns : goal.returns
 returns c = let a = c.args in
     plan_given a.self a.task.0 (long (goal.at.returns c).Start) (dated (goal.at.returns c).Else-not-in_table (long (goal.at.returns c).Start))
-    (c.plan_of-plan.ensures (table_of a.self.tasks.table) (copy_viewed a.self c.requires (long (goal.at.returns c).Start)) (table_length a.self.tasks.table (long (goal.at.returns c).Start)))
+    (c.plan_of.ensures (table_of a.self.tasks.table) (copy_viewed a.self c.requires (long (goal.at.returns c).Start)) (table_length a.self.tasks.table (long (goal.at.returns c).Start)))

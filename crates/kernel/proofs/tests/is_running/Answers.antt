@@ -1,5 +1,5 @@
 use Rattle.kernel.proofs.Testing.{runs_one}
 use Rattle.kernel.proofs.tests.is_running.Goals as goal
 
-pub returns-in-One : goal.returns-in-One
-returns-in-One c = runs_one c.in-One.is _
+pub returns-in-Some : goal.returns-in-Some
+returns-in-Some c = runs_one c.in-Some.is _
