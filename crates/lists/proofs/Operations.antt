@@ -129,9 +129,6 @@ module _ {s : Lists} {ls : ℕ → List ℕ} (sz : Sized s) (st : Stores s ls) (
   pub front_nobody : at s.first l ≡ 0 → who_in None ≡ front_of (ls l)
   front_nobody z = (popped_none z).front
 
-  pub front_one : (at s.first l ≡ 0 → ⊥) → who_in (Some (entry s.first l)) ≡ front_of (ls l)
-  front_one z = ap front_of (sym (taken z).1)
-
 -- ---- promotion's inner step
 
 module _ {s : Lists} {ls : ℕ → List ℕ} (st : Stores s ls) (l : ℕ) (r : Popped) (pop : PopsFrom ls l r) where

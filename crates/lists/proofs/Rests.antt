@@ -61,6 +61,7 @@ module _ {next : ℕ → ℕ} {all : List ℕ} {x n : ℕ} (now : Counting next 
   pub counting_task : (x ≡ 0 → ⊥) → x ≤ most
   counting_task h = (rest_turn now.rest h).task.high
 
+  -- one more is passed, so fewer than all were before
   pub counting_more : (x ≡ 0 → ⊥) → n < length all
   counting_more h = omega (arith, ap length (rest_turn now.rest h).first, now.count)
 

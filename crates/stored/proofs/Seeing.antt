@@ -18,8 +18,7 @@ use Rattle.lists.specs.Links.{nobody, at, back}
 use Rattle.lists.specs.Held.{walk, list_at, all_of}
 use Rattle.lists.specs.Marks.{none, seen_at, marked, fresh}
 use Rattle.stored.specs.Test.{Went, Unlinked, ListsRight}
-use Rattle.std.specs.Prelude.{None, Some}
-use Rattle.std.proofs.lemmas.Option.{none-some}
+use Rattle.std.specs.Prelude.{Option, None, Some}
 use Rattle.std.proofs.lemmas.List.{get_or-take, length-take}
 use Rattle.std.proofs.lemmas.Grind.{get_or_after_one}
 use Rattle.table.specs.declared.TaskNo.{TaskNo}
@@ -146,11 +145,11 @@ module _ {s : Lists} {l : ℕ} {seen : List Bool} (now : Seeing s l seen) where
     split = sym now.fresh ∙ ap (fresh seen) above.2 ∙ fresh_append seen (list_at s l) (joined (list_at s) above.0 (suc l))
 
     -- the list of level l is not right
-    pub seeing_refutes : Went s l seen None → ListsRight s → ⊥
-    seeing_refutes w h =
+    pub seeing_refutes : {r : Option (List Bool)} → Went s l seen r → ((more : List Bool) → r ≡ Some more → ⊥) → ListsRight s → ⊥
+    seeing_refutes w d h =
         let t = both_true (fresh seen (list_at s l)) (fresh (marked seen (list_at s l)) (joined (list_at s) above.0 (suc l))) (sym split ∙ h.fresh) in
         let e = eq-eqb (at s.last l) (back 0 (list_at s l)) (h.last l (record { low = now.low; high = b })) in
-        none-some (marked seen (list_at s l)) (rw (t.0, e) at w)
+        d (marked seen (list_at s l)) (rw (t.0, e) at w)
 
     -- .. or it is, and its numbers are marked too
     pub seeing_turns : {more : List Bool} → Went s l seen (Some more) → Seeing s (l + 1) more

@@ -54,14 +54,10 @@ fn lists_hold(stored: Stored) -> bool
 {
     let mut seen = [false; PLACES];
     for l in 1..PLACES {
-        match go_along(stored, l, seen) {
-            None => {
-                return false;
-            }
-            Some(more) => {
-                seen = more;
-            }
-        }
+        let Some(more) = go_along(stored, l, seen) else {
+            return false;
+        };
+        seen = more;
     }
     unlinked(stored, seen)
 }

@@ -13,5 +13,5 @@ returns-then-stored-k c = λ h.
 pub loop-k-preserved : goal.loop-k-preserved
 unfolding bit_at
 loop-k-preserved c =
-    (search rules, below_more _ _ c.loop-k.invariant.1
-    (omega (arith, rw (behind_first c.args.stored.first c.loop-k.k c.loop-k-test.true) at c.bit_of.ensures)))
+    below_more _ _ c.loop-k.invariant
+    (omega (arith, rw (behind_first c.args.stored.first c.loop-k.k c.loop-k-test.true) at c.bit_of.ensures))

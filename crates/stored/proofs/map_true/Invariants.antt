@@ -1,15 +1,11 @@
 use mathlib.Core.Path.{◌≡◌}
 use mathlib.Core.Bool.{not}
-use Prim.Native.Nat.{ℕ, ◌+◌, ◌-◌, ◌≤◌, ◌<◌}
+use Prim.Native.Nat.{ℕ, ◌+◌, ◌<◌}
 use lib.Dec.{eqb}
 use Rattle.laws.specs.Words.{digit}
 use Rattle.laws.specs.Bits.{bit_at}
-use Rattle.rules.specs.Table.{most}
 use Rattle.lists.specs.Links.{at}
 use Rattle.stored.proofs.map_true.Given as goal
 
 abbrev pub invariant-loop-k : goal.invariant-loop-k
-invariant-loop-k l = (l.k ≤ most) × ((j : ℕ) → j < l.k → bit_at l.fn.stored.map j ≡ digit (not (eqb (at l.fn.stored.first (j + 1)) 0)))
-
-abbrev pub decreases-loop-k : goal.decreases-loop-k
-decreases-loop-k l = most - l.k
+invariant-loop-k l = (j : ℕ) → j < l.k → bit_at l.fn.stored.map j ≡ digit (not (eqb (at l.fn.stored.first (j + 1)) 0))

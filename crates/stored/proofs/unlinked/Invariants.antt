@@ -1,13 +1,9 @@
 use mathlib.Core.Path.{◌≡◌}
 use mathlib.Core.Bool.{false}
-use Prim.Native.Nat.{ℕ, suc, ◌-◌, ◌≤◌, ◌<◌}
-use Rattle.rules.specs.Table.{most}
+use Prim.Native.Nat.{ℕ, ◌<◌}
 use Rattle.lists.specs.Links.{at}
 use Rattle.lists.specs.Marks.{seen_at}
 use Rattle.stored.proofs.unlinked.Given as goal
 
 abbrev pub invariant-loop-x : goal.invariant-loop-x
-invariant-loop-x l = (l.x ≤ suc most) × ((y : ℕ) → y < l.x → seen_at l.fn.seen y ≡ false → at l.fn.stored.next y ≡ 0)
-
-abbrev pub decreases-loop-x : goal.decreases-loop-x
-decreases-loop-x l = suc most - l.x
+invariant-loop-x l = (y : ℕ) → y < l.x → seen_at l.fn.seen y ≡ false → at l.fn.stored.next y ≡ 0

@@ -1,13 +1,7 @@
-use mathlib.Core.List.{List}
-use Prim.Native.Nat.{ℕ, ◌-◌, ◌<◌}
 use native.Mathlib.Omega.{arith}
-use borrow.Author.Rules.{rules}
-use Rattle.rules.specs.Table.{most}
-use Rattle.lists.specs.Links.{Stores, at}
 use Rattle.lists.proofs.Few.{list_few}
-use Rattle.lists.proofs.Rests.{Counting, counting_start, counting_task, counting_more, counting_turn, counting_end}
+use Rattle.lists.proofs.Rests.{counting_start, counting_task, counting_more, counting_turn, counting_end}
 use Rattle.lists.proofs.Lists.length_of.Goals as goal
-use Rattle.lists.proofs.Lists.length_of.Goals.{After-x-in-loop-x-1}
 
 pub loop-x-init : goal.loop-x-init
 loop-x-init c = λ ls st. counting_start st c.args.level.0
@@ -16,21 +10,13 @@ pub bounds-self-i : goal.bounds-self-i
 bounds-self-i c = let p = c.requires in
     omega (arith, counting_task (c.loop-x.invariant p.lists p.stores) c.loop-x-test.true)
 
--- one more is passed, so fewer than all were before
-few_passed : (c : After-x-in-loop-x-1) → c.loop-x.n < most
-few_passed c =
-    let a = c in let p = a.requires in
-    omega (
-      arith,
-      counting_more (c.loop-x.invariant p.lists p.stores) c.loop-x-test.true,
-      list_few p.stores.waits a.args.level.0,
-    )
-
 pub overflow_add-n : goal.overflow_add-n
-overflow_add-n c = omega (arith, few_passed (goal.at.overflow_add-n c).After-x-in-loop-x-1)
+overflow_add-n c = let p = c.requires in
+    omega (arith, counting_more (c.loop-x.invariant p.lists p.stores) c.loop-x-test.true, list_few p.stores.waits c.args.level.0)
 
 pub loop-x-smaller : goal.loop-x-smaller
-loop-x-smaller c = omega (arith, few_passed (goal.at.loop-x-smaller c).After-x-in-loop-x-1)
+loop-x-smaller c = let p = c.requires in
+    omega (arith, counting_more (c.loop-x.invariant p.lists p.stores) c.loop-x-test.true, list_few p.stores.waits c.args.level.0)
 
 pub loop-x-preserved : goal.loop-x-preserved
 loop-x-preserved c = λ ls st. counting_turn (c.loop-x.invariant ls st) c.loop-x-test.true

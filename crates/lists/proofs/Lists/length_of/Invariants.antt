@@ -1,11 +1,8 @@
 use mathlib.Core.List.{List}
-use Prim.Native.Nat.{ℕ, ◌-◌, ◌<◌}
-use native.Mathlib.Omega.{arith}
-use borrow.Author.Rules.{rules}
+use Prim.Native.Nat.{ℕ, ◌-◌}
 use Rattle.rules.specs.Table.{most}
 use Rattle.lists.specs.Links.{Stores, at}
-use Rattle.lists.proofs.Few.{list_few}
-use Rattle.lists.proofs.Rests.{Counting, counting_start, counting_task, counting_more, counting_turn, counting_end}
+use Rattle.lists.proofs.Rests.{Counting}
 use Rattle.lists.proofs.Lists.length_of.Given as goal
 
 abbrev pub invariant-loop-x : goal.invariant-loop-x

@@ -1,10 +1,8 @@
 use mathlib.Core.List.{List}
 use Prim.Native.Nat.{ℕ, suc, ◌-◌}
-use native.Mathlib.Omega.{arith}
-use borrow.Author.Rules.{rules}
 use Rattle.rules.specs.Table.{most}
 use Rattle.lists.specs.Links.{Stores}
-use Rattle.lists.proofs.Passes.{Listing, listing_start, listing_room, listing_turn, listing_end}
+use Rattle.lists.proofs.Passes.{Listing}
 use Rattle.lists.proofs.Lists.list_all.Given as goal
 
 abbrev pub invariant-loop-level : goal.invariant-loop-level

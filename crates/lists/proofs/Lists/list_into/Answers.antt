@@ -1,12 +1,8 @@
 use mathlib.Core.Path.{◌≡◌}
-use mathlib.Core.List.{List}
-use Prim.Native.Nat.{ℕ, ◌+◌, ◌-◌, ◌≤◌}
+use Prim.Native.Nat.{◌+◌, ◌≤◌}
 use native.Mathlib.Omega.{arith}
-use borrow.Author.Rules.{rules}
 use lib.ListN.{length, length-set}
-use Rattle.lists.specs.Links.{Stores}
-use Rattle.lists.specs.Links as links
-use Rattle.lists.proofs.Rests.{Writing, writing_start, writing_task, writing_room, writing_turn, writing_end}
+use Rattle.lists.proofs.Rests.{writing_start, writing_task, writing_room, writing_turn, writing_end}
 use Rattle.lists.proofs.Lists.list_into.Goals as goal
 use Rattle.lists.proofs.Lists.list_into.Goals.{In-loop-task}
 
@@ -23,14 +19,8 @@ room c =
 pub bounds-buffer-at : goal.bounds-buffer-at
 bounds-buffer-at c = omega (arith, room (goal.at.bounds-buffer-at c).In-loop-task)
 
-pub overflow_add-buffer : goal.overflow_add-buffer
-overflow_add-buffer c = omega (arith, room (goal.at.overflow_add-buffer c).In-loop-task)
-
 pub bounds-buffer-at-in-loop-task : goal.bounds-buffer-at-in-loop-task
 bounds-buffer-at-in-loop-task c = simp length-set (omega (arith, room (goal.at.bounds-buffer-at-in-loop-task c).In-loop-task))
-
-pub overflow_add-at : goal.overflow_add-at
-overflow_add-at c = omega (arith, room (goal.at.overflow_add-at c).In-loop-task)
 
 pub bounds-self-i : goal.bounds-self-i
 bounds-self-i c = let p = c.requires in

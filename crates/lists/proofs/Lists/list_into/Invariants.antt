@@ -1,12 +1,9 @@
-use mathlib.Core.Path.{◌≡◌}
 use mathlib.Core.List.{List}
-use Prim.Native.Nat.{ℕ, ◌+◌, ◌-◌, ◌≤◌}
-use native.Mathlib.Omega.{arith}
-use borrow.Author.Rules.{rules}
-use lib.ListN.{length, length-set}
+use Prim.Native.Nat.{ℕ, ◌-◌}
+use lib.ListN.{length}
 use Rattle.lists.specs.Links.{Stores}
 use Rattle.lists.specs.Links as links
-use Rattle.lists.proofs.Rests.{Writing, writing_start, writing_task, writing_room, writing_turn, writing_end}
+use Rattle.lists.proofs.Rests.{Writing}
 use Rattle.lists.proofs.Lists.list_into.Given as goal
 
 abbrev pub invariant-loop-task : goal.invariant-loop-task

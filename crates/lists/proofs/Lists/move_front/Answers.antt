@@ -1,11 +1,10 @@
 use Rattle.lists.proofs.Operations.{moved_none, moved_one, popped_enters}
-use borrow.Author.Rules.{rules}
 use Rattle.lists.proofs.Lists.move_front.Goals as goal
 
 pub push_back-requires : goal.push_back-requires
-push_back-requires c = let a = c in
+push_back-requires c =
     let pop = c.pop_front-popped in
-    popped_enters a.requires.0.stores _ pop.result (pop.ensures a.requires.0.lists a.requires.0.stores) _ _ c.in-Some.is a.requires.1
+    popped_enters c.requires.0.stores _ pop.result (pop.ensures c.requires.0.lists c.requires.0.stores) _ _ c.in-Some.is c.requires.1
 
 pub returns-in-None : goal.returns-in-None
 returns-in-None c = λ ls st.

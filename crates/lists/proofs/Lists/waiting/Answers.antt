@@ -1,19 +1,10 @@
-use mathlib.Core.List.{List}
-use Prim.Native.Nat.{ℕ, suc, ◌-◌}
 use native.Mathlib.Omega.{arith}
-use borrow.Author.Rules.{rules}
-use Rattle.rules.specs.Table.{most}
-use Rattle.lists.specs.Links.{Stores}
-use Rattle.lists.proofs.Passes.{Adding, adding_start, adding_room, adding_turn, adding_end}
+use Rattle.lists.proofs.Passes.{adding_start, adding_room, adding_turn, adding_end}
 use Rattle.lists.proofs.Together.{listing_few}
 use Rattle.lists.proofs.Lists.waiting.Goals as goal
 
 pub loop-l-init : goal.loop-l-init
 loop-l-init c = λ ls st. adding_start st.waits
-
-pub length_of-sum-requires : goal.length_of-sum-requires
-length_of-sum-requires c = let p = c.requires in let now = c.loop-l.invariant p.lists p.stores in
-    record { lists = p.lists; stores = p.stores; level = record { low = now.low; high = omega arith } }
 
 pub overflow_add-sum : goal.overflow_add-sum
 overflow_add-sum c = let p = c.requires in let now = c.loop-l.invariant p.lists p.stores in

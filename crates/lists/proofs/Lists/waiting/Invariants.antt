@@ -1,11 +1,8 @@
 use mathlib.Core.List.{List}
 use Prim.Native.Nat.{ℕ, suc, ◌-◌}
-use native.Mathlib.Omega.{arith}
-use borrow.Author.Rules.{rules}
 use Rattle.rules.specs.Table.{most}
 use Rattle.lists.specs.Links.{Stores}
-use Rattle.lists.proofs.Passes.{Adding, adding_start, adding_room, adding_turn, adding_end}
-use Rattle.lists.proofs.Together.{listing_few}
+use Rattle.lists.proofs.Passes.{Adding}
 use Rattle.lists.proofs.Lists.waiting.Given as goal
 
 abbrev pub invariant-loop-l : goal.invariant-loop-l
