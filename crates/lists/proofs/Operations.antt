@@ -5,6 +5,7 @@ use mathlib.Core.List.{List, [], ◌∷◌}
 use Prim.Native.Nat.{ℕ, zero, suc, ◌-◌, ◌≤◌}
 use native.Mathlib.Omega.{arith}
 use lib.ListN.{get_or, set, replicate}
+use Rattle.std.specs.Prelude.{None, Some}
 use Rattle.laws.specs.Words.{In, behind, put}
 use Rattle.laws.specs.Bits.{BitMade}
 use Rattle.laws.proofs.Bools.{clash}
@@ -21,7 +22,6 @@ use Rattle.lists.specs.Answers.{who_in, MayEnter, PopsFrom, front_moved}
 use Rattle.lists.proofs.Links.{front_empty, front_most, back_most, push_front_first, push_front_more, push_back_first, push_back_more, pop_last, pop_more}
 use Rattle.lists.proofs.Storage.{at_set, stored_by, stores}
 use Rattle.lists.proofs.Determined.{enters_absent}
-use Rattle.std.specs.Prelude.{None, Some}
 
 abbrev entry : List TaskNo → ℕ → TaskNo
 entry a i = get_or a i nobody

@@ -4,18 +4,18 @@ use mathlib.Core.List.{List, []}
 use Prim.Native.Nat.{ℕ, suc}
 use native.Mathlib.Omega.{arith}
 use lib.ListN.{replicate, length-replicate}
+use Rattle.std.specs.Prelude.{None, Option, Some}
 use Rattle.laws.specs.Words.{Puts}
 use Rattle.laws.proofs.Buffers.{puts_one}
 use Rattle.rules.specs.Table.{most}
 use Rattle.rules.specs.State.{Running, Nobody, One}
+use Rattle.table.specs.declared.TaskNo.{TaskNo}
 use Rattle.lists.specs.declared.Lists.{Lists}
 use Rattle.lists.specs.declared.Popped.{Popped}
 use Rattle.lists.specs.Links.{Sized, nobody, Stores}
 use Rattle.lists.specs.Answers.{who_in, PopsFrom, Holds}
 use Rattle.lists.proofs.Determined.{arrays_one}
 use Rattle.lists.proofs.Operations.{stores_empty}
-use Rattle.std.specs.Prelude.{None, Option, Some}
-use Rattle.table.specs.declared.TaskNo.{TaskNo}
 
 -- an answer that says the same is the same
 who_said : Running → Option TaskNo

@@ -1,4 +1,4 @@
--- The test's loops: along one list, and over the levels. Each is told by what is left. Assumes nothing.
+-- The test's loops: over the bits of the map, along one list, and over the levels. The last two are told by what is left. Assumes nothing.
 use mathlib.Core.Path.{◌≡◌, refl, sym, ap, ◌∙◌}
 use mathlib.Core.Bool.{Bool, true, false, not, ◌&&◌}
 use mathlib.Core.List.{List, ◌∷◌, ◌++◌}
@@ -9,25 +9,26 @@ use native.Mathlib.Omega.{arith}
 use borrow.Author.Tests.{le-leb, lt-leb, eqb-true, eq-eqb, ne_eqb}
 use lib.Dec.{eqb}
 use lib.ListN.{length, take, drop, get_or, set, length-set}
+use Rattle.std.specs.Prelude.{Option, None, Some}
+use Rattle.std.proofs.lemmas.Grind.{get_or_after_one}
+use Rattle.std.proofs.lemmas.List.{get_or-take, length-take}
 use Rattle.laws.specs.Words.{Decides, pick, count, joined}
 use Rattle.laws.proofs.Bools.{clash, both_true, decides_same}
 use Rattle.laws.proofs.Counts.{count_le}
 use Rattle.rules.specs.Table.{most}
+use Rattle.table.specs.declared.TaskNo.{TaskNo}
 use Rattle.lists.specs.declared.Lists.{Lists}
 use Rattle.lists.specs.Links.{nobody, at, back}
 use Rattle.lists.specs.Held.{walk, list_at, all_of}
 use Rattle.lists.specs.Marks.{none, seen_at, marked, fresh}
 use Rattle.stored.specs.Test.{Went, Unlinked, ListsRight}
-use Rattle.std.specs.Prelude.{Option, None, Some}
-use Rattle.std.proofs.lemmas.List.{get_or-take, length-take}
-use Rattle.std.proofs.lemmas.Grind.{get_or_after_one}
-use Rattle.table.specs.declared.TaskNo.{TaskNo}
 use Rattle.lists.proofs.Walks.{walk_end, walk_on}
 use Rattle.lists.proofs.Marks.{unseen_falls, marked_append, fresh_append}
 
 -- ---- the bits of the map: entry k behind the first of an array is entry k + 1
 
-pub behind_first : (a : List TaskNo) (k : ℕ) → k < length (take (length a - 1) (drop 1 a)) → get_or (take (length a - 1) (drop 1 a)) k nobody ≡ get_or a (k + 1) nobody
+pub behind_first : (a : List TaskNo) (k : ℕ) → k < length (take (length a - 1) (drop 1 a))
+    → get_or (take (length a - 1) (drop 1 a)) k nobody ≡ get_or a (k + 1) nobody
 behind_first a k h =
     get_or-take (length a - 1) (drop 1 a) k nobody (omega (arith, length-take (length a - 1) (drop 1 a)))
     ∙ get_or_after_one a k nobody ∙ ap (λ (i : ℕ). get_or a i nobody) (omega arith)

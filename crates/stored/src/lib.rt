@@ -106,8 +106,5 @@ fn unlinked(stored: Stored, seen: [bool; PLACES]) -> bool
 fn bit_of(first: TaskNo) -> u64
     ensures { result ≡ digit (not (eqb first.0 0)) }
 {
-    if first.0 == 0 {
-        return 0;
-    }
-    1
+    (first.0 != 0) as u64
 }
