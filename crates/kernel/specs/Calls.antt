@@ -2,15 +2,23 @@
 use Rattle.std.specs.Prelude.{ℕ, ℤ, ◌≡◌, Bool, true, false, Option, Ok, Err}
 use Rattle.rules.specs.Numbers.{Passed, first_of}
 use Rattle.rules.specs.Numbers as Numbers
-use Rattle.rules.specs.Calls.{Call, reading_of, time_at, tests_of, step_of}
+use Rattle.rules.specs.Calls.{Call, Release, Done, Clock, reading_of, time_at, tests_of, step_of}
 use Rattle.rules.specs.Calls as Calls
 use Rattle.ready.specs.declared.Ready.{Ready}
 use Rattle.kernel.specs.declared.Block.{Block}
+use Rattle.kernel.specs.declared.Call as Code
+use Rattle.kernel.specs.declared.Call.TheVariants as Given
 use Rattle.kernel.specs.declared.Called.{Called}
 use Rattle.kernel.specs.declared.Refusal.{Refusal}
 use Rattle.kernel.specs.declared.Refusal.TheVariants.{NotWhole}
 use Rattle.kernel.specs.Block.{view_of, Whole, SameTasks, Test15}
 use Rattle.kernel.specs.Answers.{answer_in}
+
+-- a call, as the rules' call
+abbrev pub call_in : Code.Call → Call
+call_in (Given.Release reading task) = Release reading task.0
+call_in (Given.Done reading task) = Done reading task.0
+call_in (Given.Clock reading) = Clock reading
 
 -- of a whole block: answer and block are those of the rules' step
 pub record Does (b : Block) (c : Call) (r : Called) : Type 0 where

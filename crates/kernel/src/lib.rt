@@ -10,6 +10,7 @@
 //     block.release(reading, task)       15, 5, 6, 7, 8, 9      here; tests, inner
 //     block.done(reading, task)          15, 5, 6, 7, 10
 //     block.clock(reading)               15, 5, 6
+//     block.call(call)                   whichever of the three it is
 //     block.listing(buffer)              15, 11                 asks
 //     block.plan(task)                   15, 7
 //
@@ -28,7 +29,7 @@ ghost use Rattle.rules.specs.Calls.{Release, Done, Clock};
 ghost use Rattle.clock.specs.Advance.{clock_refusal_in};
 ghost use Rattle.kernel.specs.Block.{Whole};
 ghost use Rattle.kernel.specs.Answers.{refusal_in};
-ghost use Rattle.kernel.specs.Calls.{Gives};
+ghost use Rattle.kernel.specs.Calls.{call_in, Gives};
 
 use clock::ClockRefusal;
 use jobs::{Job, Tasks};
@@ -117,6 +118,14 @@ pub struct Accepted {
     pub margin: Option<i64>,
 }
 
+// "calls (release, done, clock)"
+#[derive(Clone, Copy)]
+pub enum Call {
+    Release { reading: u32, task: TaskNo },
+    Done { reading: u32, task: TaskNo },
+    Clock { reading: u32 },
+}
+
 // What a call gives back.
 #[derive(Clone, Copy)]
 pub struct Called {
@@ -130,6 +139,17 @@ impl Block {
         ensures { Decides result (Whole self) }
     {
         is_whole(self.tasks, self.jobs, self.ready, self.now.clock)
+    }
+
+    // The call, whichever it is.
+    pub fn call(self, call: Call) -> Called
+        ensures { Gives self (call_in call) result }
+    {
+        match call {
+            Call::Release { reading, task } => self.release(reading, task),
+            Call::Done { reading, task } => self.done(reading, task),
+            Call::Clock { reading } => self.clock(reading),
+        }
     }
 
     // "release: the task's job becomes active."
