@@ -1,2 +1,3 @@
 -- What the contracts of `records` cite beside the rules.
 pub mod Read
+pub mod Turns

@@ -8,9 +8,10 @@
 // Numbers are little-endian. Each function takes a few steps.
 #![tactic(auto)]
 
-ghost use Rattle.std.specs.Prelude.{◌≡◌, ◌+◌, ◌≤◌, length};
+ghost use Rattle.std.specs.Prelude.{◌≡◌, ◌+◌, ◌-◌, ◌≤◌, length, IfErr};
+ghost use Rattle.std.specs.Iterator.{at_most};
 ghost use Rattle.rules.specs.Records.{word, record_at};
-ghost use Rattle.records.specs.Read.{mark_in, size_in, says_in, found_in};
+ghost use Rattle.records.specs.Read.{mark_in, size_in, says_in, read_as, found_in};
 
 use table::{Task, TaskNo};
 
@@ -21,7 +22,6 @@ enum Mark {
     Release,
     Done,
     Clock,
-    Unknown,
 }
 
 // "calls (release, done, clock)": what an event record says.
@@ -38,73 +38,59 @@ pub enum Record {
     Event(Call),
 }
 
-// What stands at a place: the stream's end, a record of so many bytes, or an unknown mark or a record cut off.
-#[derive(Clone, Copy)]
-pub enum Found {
-    End,
-    Read(Record, usize),
-    Bad,
-}
+// "unknown mark, or a record cut off": at this offset.
+#[derive(Clone, Copy, Debug, PartialEq, Eq)]
+pub struct Unreadable(pub usize);
 
-// The table of marks: the two bytes,
-fn mark_of(first: u8, second: u8) -> Mark
-    ensures { result ≡ mark_in first second }
-{
-    if first == b'T' && second == b'K' {
-        return Mark::Task;
+impl Mark {
+    // The table of marks: the two bytes,
+    fn of(first: u8, second: u8) -> Option<Mark>
+        ensures { result ≡ mark_in first second }
+    {
+        match (first, second) {
+            (b'T', b'K') => Some(Mark::Task),
+            (b'R', b'L') => Some(Mark::Release),
+            (b'D', b'N') => Some(Mark::Done),
+            (b'T', b'M') => Some(Mark::Clock),
+            _ => None,
+        }
     }
-    if first == b'R' && second == b'L' {
-        return Mark::Release;
-    }
-    if first == b'D' && second == b'N' {
-        return Mark::Done;
-    }
-    if first == b'T' && second == b'M' {
-        return Mark::Clock;
-    }
-    Mark::Unknown
-}
 
-// and how many bytes the record has with them.
-fn size_of(mark: Mark) -> usize
-    ensures { result ≡ size_in mark }
-{
-    match mark {
-        Mark::Task => 14,
-        Mark::Release => 7,
-        Mark::Done => 7,
-        Mark::Clock => 6,
-        Mark::Unknown => 0,
+    // and how many bytes the record has with them.
+    fn size(self) -> usize
+        ensures { result ≡ size_in self }
+    {
+        match self {
+            Mark::Task => 14,
+            Mark::Release => 7,
+            Mark::Done => 7,
+            Mark::Clock => 6,
+        }
     }
 }
 
 // What the record of a mark says, where all its bytes are there.
-fn body_at(stream: &[u8], at: usize, mark: Mark, size: usize) -> Found
-    requires { (size ≡ size_in mark) × (at + size ≤ length stream.now) }
-    ensures { found_in result ≡ says_in stream.now at mark }
+fn body_at(stream: &[u8], at: usize, mark: Mark) -> Record
+    requires { at + size_in mark ≤ length stream.now }
+    ensures { read_as result (size_in mark) ≡ says_in stream.now at mark }
 {
     match mark {
-        Mark::Task => {
-            let c = word_at(stream, at + 2);
-            let d = word_at(stream, at + 6);
-            let t = word_at(stream, at + 10);
-            Found::Read(Record::Task(Task { c, d, t }), size)
-        }
-        Mark::Release => {
-            let reading = word_at(stream, at + 2);
-            let task = TaskNo(stream[at + 6]);
-            Found::Read(Record::Event(Call::Release { reading, task }), size)
-        }
-        Mark::Done => {
-            let reading = word_at(stream, at + 2);
-            let task = TaskNo(stream[at + 6]);
-            Found::Read(Record::Event(Call::Done { reading, task }), size)
-        }
-        Mark::Clock => {
-            let reading = word_at(stream, at + 2);
-            Found::Read(Record::Event(Call::Clock { reading }), size)
-        }
-        Mark::Unknown => Found::Bad,
+        Mark::Task => Record::Task(Task {
+            c: word_at(stream, at + 2),
+            d: word_at(stream, at + 6),
+            t: word_at(stream, at + 10),
+        }),
+        Mark::Release => Record::Event(Call::Release {
+            reading: word_at(stream, at + 2),
+            task: TaskNo(stream[at + 6]),
+        }),
+        Mark::Done => Record::Event(Call::Done {
+            reading: word_at(stream, at + 2),
+            task: TaskNo(stream[at + 6]),
+        }),
+        Mark::Clock => Record::Event(Call::Clock {
+            reading: word_at(stream, at + 2),
+        }),
     }
 }
 
@@ -113,29 +99,26 @@ pub fn word_at(stream: &[u8], at: usize) -> u32
     requires { at + 4 ≤ length stream.now }
     ensures { result ≡ word stream.now at }
 {
-    let lowest = stream[at] as u32;
-    let low = stream[at + 1] as u32;
-    let high = stream[at + 2] as u32;
-    let highest = stream[at + 3] as u32;
-    lowest + 256 * low + 65536 * high + 16777216 * highest
+    u32::from_le_bytes([stream[at], stream[at + 1], stream[at + 2], stream[at + 3]])
 }
 
-// What stands at a place of a stream, whatever the place.
-pub fn record_at(stream: &[u8], at: usize) -> Found
-    ensures { found_in result ≡ record_at stream.now at }
+// What stands at a place of a stream, whatever the place: a record and its size, or nothing where the stream has ended.
+pub fn record_at(stream: &[u8], at: usize) -> Result<Option<(Record, usize)>, Unreadable>
+    ensures found { found_in result ≡ record_at stream.now at }
+    ensures offset { IfErr result (λ e. e.0 ≡ at) }
 {
     if stream.len() <= at {
-        return Found::End;
+        return Ok(None);
     }
     if stream.len() - at < 2 {
-        return Found::Bad;
+        return Err(Unreadable(at));
     }
-    let mark = mark_of(stream[at], stream[at + 1]);
-    let size = size_of(mark);
+    let mark = Mark::of(stream[at], stream[at + 1]).ok_or(Unreadable(at))?;
+    let size = mark.size();
     if stream.len() - at < size {
-        return Found::Bad;
+        return Err(Unreadable(at));
     }
-    body_at(stream, at, mark, size)
+    Ok(Some((body_at(stream, at, mark), size)))
 }
 
 // "The record reader keeps the stream it reads together with its place in it."
@@ -157,23 +140,32 @@ impl<'a> Reader<'a> {
     pub fn moved(self, at: usize) -> Reader<'a>
         ensures { (result.stream ≡ self.entry.stream) × (result.at ≡ at) }
     {
-        Reader {
-            stream: self.stream,
-            at,
-        }
-    }
-
-    // What stands at the reader's place.
-    pub fn next(self) -> Found
-        ensures { found_in result ≡ record_at self.entry.stream.now self.entry.at }
-    {
-        record_at(self.stream, self.at)
+        Reader { at, ..self }
     }
 }
 
-// What a reader of this stream finds at this place: for callers that have a plain slice.
-pub fn read(stream: &[u8], at: usize) -> Found
-    ensures { found_in result ≡ record_at stream.now at }
-{
-    Reader::new(stream).moved(at).next()
+// The records from the reader's place on, each with its offset. Behind one that cannot be read there are none.
+impl<'a> Iterator for Reader<'a> {
+    type Item = Result<(usize, Record), Unreadable>;
+
+    ghost use Rattle.records.specs.Turns.{Turns};
+
+    ghost next_gives = { Turns };
+
+    ghost remaining = { λ r. at_most (length r.stream.now - r.at) };
+
+    fn next(&mut self) -> Option<Result<(usize, Record), Unreadable>> {
+        let at = self.at;
+        match record_at(self.stream, at) {
+            Ok(None) => None,
+            Ok(Some((record, size))) => {
+                self.at += size;
+                Some(Ok((at, record)))
+            }
+            Err(unreadable) => {
+                self.at = self.stream.len();
+                Some(Err(unreadable))
+            }
+        }
+    }
 }

@@ -1,19 +1,26 @@
-use Rattle.std.proofs.Common.{arith, sym, ap, ◌∙◌}
+use Rattle.std.proofs.Common.{◌≡◌, Some, sym, ◌∙◌, arith}
+use Rattle.std.proofs.lemmas.Result.{err_from_is_err_and}
 use Rattle.rules.proofs.Streams.{at_end}
-use Rattle.records.specs.Read.{size_in, says_in}
-use Rattle.records.proofs.Marks.{short_at, cut_at, whole_at}
+use Rattle.records.specs.Read.{mark_in, size_in, found_in}
+use Rattle.records.proofs.Marks.{short_at, unknown_at, cut_at, whole_at}
 use Rattle.records.proofs.record_at.Goals as goal
 
-pub returns-then-stream-at : goal.returns-then-stream-at
-returns-then-stream-at c = sym (at_end _ _ c.if-stream-at.true)
+pub returns-then-stream-at-clause-found : goal.returns-then-stream-at-clause-found
+returns-then-stream-at-clause-found c = sym (at_end _ _ c.if-stream-at.true)
 
-pub returns-then-stream-at-lt2 : goal.returns-then-stream-at-lt2
-returns-then-stream-at-lt2 c = sym (short_at _ _ c.if-stream-at.false (omega arith))
+pub returns-then-stream-at-lt2-clause-found : goal.returns-then-stream-at-lt2-clause-found
+returns-then-stream-at-lt2-clause-found c = sym (short_at _ _ c.if-stream-at.false (omega arith))
 
-pub returns-then-stream-at-2 : goal.returns-then-stream-at-2
-returns-then-stream-at-2 c = sym (cut_at c.args.stream.now c.args.at (omega arith) (omega (arith, ap size_in c.mark_of-mark.ensures)))
+pub returns-in_err-mark-clause-found : goal.returns-in_err-mark-clause-found
+returns-in_err-mark-clause-found c =
+    let p = err_from_is_err_and c.from_residual.result c.from_residual.ensures.1 in
+    rw p.1 (sym (unknown_at _ _ c.if-stream-at.false (sym c.in_err-mark.ensures.ok_part ∙ c.of.ensures)))
 
-pub returns : goal.returns
-returns c =
-    c.body_at.ensures ∙ ap (says_in c.args.stream.now c.args.at) c.mark_of-mark.ensures
-    ∙ sym (whole_at c.args.stream.now c.args.at (omega arith) (omega (arith, ap size_in c.mark_of-mark.ensures)))
+pub returns-then-stream-at-2-clause-found : goal.returns-then-stream-at-2-clause-found
+returns-then-stream-at-2-clause-found c =
+    sym (cut_at _ _ c.if-stream-at.false c.in_ok-mark.mark (sym c.in_ok-mark.ensures.ok_part ∙ c.of.ensures) (omega (arith, c.size-size.ensures)))
+
+pub returns-clause-found : goal.returns-clause-found
+returns-clause-found c =
+    rw c.size-size.ensures
+    (c.body_at.ensures ∙ sym (whole_at _ _ c.if-stream-at.false c.in_ok-mark.mark (sym c.in_ok-mark.ensures.ok_part ∙ c.of.ensures) (omega (arith, c.size-size.ensures))))
