@@ -3,7 +3,9 @@ use mathlib.Core.Path.{◌≡◌, refl, sym, ap, ap₂, ◌∙◌}
 use mathlib.Core.Bool.{Bool, true, false}
 use mathlib.Core.Logic.{inr}
 use mathlib.Core.List.{List, [], ◌∷◌, ◌++◌, map, map-append, append-nil}
-use Prim.Native.Nat.{ℕ, ◌+◌, ◌≤◌}
+use Prim.Native.Nat.{ℕ, suc, ◌+◌, ◌≤◌, ◌<◌}
+use Rattle.std.proofs.Common.{None, Some, Ok, Err}
+use Rattle.std.specs.Borrow.{Bor}
 use native.Mathlib.Omega.{arith}
 use borrow.Author.Tests.{leb-true, leb-false}
 use lib.Dec.{leb}
@@ -12,14 +14,18 @@ use lib.Seq.{append_snoc, set_out}
 use Rattle.laws.proofs.Arrays.{padded, padded_length, padded_next, padded_full, padded_front}
 use Rattle.rules.specs.Table as Rules
 use Rattle.rules.specs.Table.{most, verdict_of}
-use Rattle.rules.specs.Calls.{Call}
-use Rattle.rules.specs.Records.{End, Bad, Read, TaskRecord, EventRecord, record_at, items_from, tasks_in, tasks_read}
+use Rattle.rules.specs.Records.{items_from, tasks_in, tasks_read}
 use Rattle.rules.proofs.Streams.{end_at, read_within, tasks_end, tasks_bad, tasks_more, tasks_same}
 use Rattle.rules.proofs.Tables.{demand_1_table}
 use Rattle.table.specs.declared.Table.{Table}
 use Rattle.table.specs.declared.Task.{Task}
 use Rattle.table.specs.Stored.{task_of, no_entry, table_of}
 use Rattle.table.proofs.Tests.{table_length, table_is}
+use Rattle.records.specs.declared.Call.{Call}
+use Rattle.records.specs.declared.Record.TheVariants as Record
+use Rattle.records.specs.declared.Unreadable.{Unreadable}
+use Rattle.records.specs.declared.Reader.{Reader}
+use Rattle.records.specs.Turns.{Turns}
 use Rattle.stream.specs.Load.{stored_as, table_in, added_to}
 
 -- ---- one task more
@@ -97,45 +103,60 @@ module _ (ts : List Rules.Task) where
           (demand_1_table (table_of (table_in ts))).numbers.number_1.1 (inr (omega (arith, table_length (table_in ts) table_places, table_count)))
           ∙ sym ((demand_1_table ts).numbers.number_1.1 (inr h))
 
--- ---- record by record
+-- ---- turn by turn of the stream's reader
 
--- a table that stores the tasks of the records ahead of a place; there are no more of them than bytes
-pub record Loaded (s : List ℕ) (at : ℕ) (table : Table) : Type 0 where
+-- a table that stores the tasks of the records ahead of the reader's place; there are no more of them than bytes
+pub record Loaded (s : List ℕ) (r : Reader) (table : Table) : Type 0 where
+  pub stream : r.stream.now ≡ s
   pub ahead : List Rules.Task
   pub stored : table ≡ table_in ahead
-  pub few : length ahead ≤ at
-  pub all : ahead ++ tasks_in (items_from s at) ≡ tasks_read s
+  pub few : length ahead ≤ r.at
+  pub all : ahead ++ tasks_in (items_from s r.at) ≡ tasks_read s
 
-module _ (s : List ℕ) where
-  pub loaded_start : Loaded s 0 (record { count = 0; tasks = replicate most no_entry })
+module _ (s : List ℕ) (r : Reader) where
+  pub loaded_start : r.stream.now ≡ s → r.at ≡ 0 → Loaded s r (record { count = 0; tasks = replicate most no_entry })
   unfolding table_in
-  loaded_start = record { ahead = []; stored = refl; few = omega arith; all = refl }
+  loaded_start e f = record { stream = e; ahead = []; stored = refl; few = omega arith; all = rw f }
 
-  module _ (at : ℕ) (table : Table) (now : Loaded s at table) where
-    pub loaded_count : table.count ≤ at
-    loaded_count = omega (arith, ap (λ (y : Table). y.count) now.stored, table_count now.ahead, now.few)
+  module _ (t : Reader) (table : Table) (now : Loaded s r table) where
+    abbrev behind : List Rules.Task → List Rules.Task
+    behind ts = now.ahead ++ ts
 
-    done : tasks_in (items_from s at) ≡ [] → table ≡ table_in (tasks_read s)
-    done e = now.stored ∙ ap table_in (sym (append-nil now.ahead) ∙ ap (λ (ts : List Rules.Task). now.ahead ++ ts) (sym e) ∙ now.all)
+    done : tasks_in (items_from s r.at) ≡ [] → table ≡ table_in (tasks_read s)
+    done e = now.stored ∙ ap table_in (sym (append-nil now.ahead) ∙ ap behind (sym e) ∙ now.all)
 
-    pub loaded_past : length s ≤ at → table ≡ table_in (tasks_read s)
-    loaded_past h = done (tasks_end s at h)
+    pub loaded_end : Turns r None t → table ≡ table_in (tasks_read s)
+    loaded_end w = done (tasks_end s r.at (end_at s r.at (rw now.stream at w.0)))
 
-    pub loaded_end : record_at s at ≡ End → table ≡ table_in (tasks_read s)
-    loaded_end e = loaded_past (end_at s at e)
+    pub loaded_bad : (e : Unreadable) → Turns r (Some (Err e)) t → table ≡ table_in (tasks_read s)
+    loaded_bad e w = done (tasks_bad s r.at (rw now.stream at w.2))
 
-    pub loaded_bad : record_at s at ≡ Bad → table ≡ table_in (tasks_read s)
-    loaded_bad e = done (tasks_bad s at e)
+    module _ (at : ℕ) where
+      pub loaded_event : (c : Call) → Turns r (Some (Ok (at, Record.Event c))) t → Loaded s t table
+      loaded_event c w =
+          record {
+            stream = ap (λ (b : Bor (List ℕ)). b.now) w.1 ∙ now.stream;
+            ahead = now.ahead;
+            stored = now.stored;
+            few = omega (arith, now.few, w.2.2);
+            all = rw w.2.2 (ap behind (sym (tasks_same s r.at _ _ (rw now.stream at w.2.1))) ∙ now.all);
+          }
 
-    pub loaded_event : (c : Call) (n : ℕ) → record_at s at ≡ Read (EventRecord c) n → Loaded s (at + n) table
-    loaded_event c n e =
-        record { ahead = now.ahead; stored = now.stored; few = omega (arith, now.few); all = ap (λ (ts : List Rules.Task). now.ahead ++ ts) (sym (tasks_same s at c n e)) ∙ now.all }
+      module _ (x : Task) (w : Turns r (Some (Ok (at, Record.Task x))) t) where
+        within : (6 ≤ w.2.0) × (r.at + w.2.0 ≤ length s)
+        within = read_within s r.at _ _ (rw now.stream at w.2.1)
 
-    pub loaded_task : (x : Task) (n : ℕ) (more : Table) → record_at s at ≡ Read (TaskRecord (task_of x)) n → more ≡ added_to table x → Loaded s (at + n) more
-    loaded_task x n more e f =
-        record {
-          ahead = now.ahead ++ task_of x ∷ [];
-          stored = f ∙ ap (λ (y : Table). added_to y x) now.stored ∙ added_more now.ahead x;
-          few = omega (arith, length-append now.ahead (task_of x ∷ []), now.few, (read_within s at _ n e).0);
-          all = append_snoc now.ahead (task_of x) (tasks_in (items_from s (at + n))) ∙ ap (λ (ts : List Rules.Task). now.ahead ++ ts) (sym (tasks_more s at (task_of x) n e)) ∙ now.all;
-        }
+        pub loaded_room : suc table.count < length s
+        loaded_room = omega (arith, ap (λ (y : Table). y.count) now.stored, table_count now.ahead, now.few, within)
+
+        pub loaded_task : (more : Table) → more ≡ added_to table x → Loaded s t more
+        loaded_task more f =
+            record {
+              stream = ap (λ (b : Bor (List ℕ)). b.now) w.1 ∙ now.stream;
+              ahead = now.ahead ++ task_of x ∷ [];
+              stored = f ∙ ap (λ (y : Table). added_to y x) now.stored ∙ added_more now.ahead x;
+              few = omega (arith, length-append now.ahead (task_of x ∷ []), now.few, w.2.2, within);
+              all =
+                  rw w.2.2
+                  (append_snoc now.ahead (task_of x) (tasks_in (items_from s (r.at + w.2.0))) ∙ ap behind (sym (tasks_more s r.at _ _ (rw now.stream at w.2.1))) ∙ now.all);
+            }

@@ -1,44 +1,40 @@
--- What the tests of a stream find, record by record. Assumes nothing.
-use mathlib.Core.Path.{◌≡◌, refl}
-use mathlib.Core.Bool.{Bool, true, false}
-use mathlib.Core.List.{List}
-use Prim.Native.Nat.{ℕ, ◌+◌, ◌≤◌}
+-- What the tests of a stream find, turn by turn of its reader. Assumes nothing.
+use Rattle.std.proofs.Common.{◌≡◌, ℕ, ◌≤◌, Bool, true, false, List, Option, Some, None, Result, Ok, Err, length, refl, ◌∙◌}
 use borrow.Author.Tests.{le-ltb}
-use lib.ListN.{length}
-use Rattle.laws.proofs.Bools.{true_false}
-use Rattle.rules.specs.Numbers.{longest, Verdict, Passed, Failed, TaskBehindEvent, first_of}
-use Rattle.rules.specs.Table.{Task}
-use Rattle.rules.specs.Records.{End, record_at, items_from, is_task_record, record_tests, stream_of}
-use Rattle.rules.proofs.Streams.{end_at, tests_end, tests_late, tests_task, tests_event}
-use Rattle.records.specs.declared.Record.{Record}
+use Rattle.rules.specs.Numbers.{longest, Verdict, Passed, Failed, Unreadable, TaskBehindEvent, first_of}
+use Rattle.rules.specs.Records.{items_from, record_tests, stream_of}
+use Rattle.rules.proofs.Streams.{end_at, tests_end, tests_bad, tests_late, tests_task, tests_event}
+use Rattle.table.specs.declared.Task.{Task}
+use Rattle.records.specs.declared.Call.{Call}
 use Rattle.records.specs.declared.Record.TheVariants as Record
-use Rattle.records.specs.Read.{read_as}
+use Rattle.records.specs.declared.Unreadable as Error
+use Rattle.records.specs.declared.Reader.{Reader}
+use Rattle.records.specs.Turns.{Turns}
 
--- what the tests of the records from a place on find; `begun`, that an event has come
-abbrev pub tests_from : List ℕ → Bool → ℕ → Verdict
-tests_from s begun at = first_of (record_tests begun (items_from s at))
+-- what the tests of the records from the reader's place on find; `begun`, that an event has come
+abbrev pub tests_left : Reader → Bool → Verdict
+tests_left r begun = first_of (record_tests begun (items_from r.stream.now r.at))
 
-pub tests_none : (s : List ℕ) (at : ℕ) (begun : Bool) → record_at s at ≡ End → tests_from s begun at ≡ Passed
-tests_none s at begun e = tests_end s at begun (end_at s at e)
+module _ (r t : Reader) (begun : Bool) where
+  pub turn_end : Turns r None t → tests_left r begun ≡ Passed
+  turn_end w = tests_end _ _ begun (end_at _ _ w.0)
 
--- ---- a record that was read, by the test whether it is a task's
+  pub turn_bad : (e : Error.Unreadable) → Turns r (Some (Err e)) t → tests_left r begun ≡ Failed (Unreadable e.0)
+  turn_bad e w = rw w.0 (tests_bad _ _ begun w.2)
 
-module _ (s : List ℕ) (begun : Bool) (at : ℕ) where
-  pub turn_late : (r : Record) (n : ℕ) → record_at s at ≡ read_as r n → begun ≡ true → is_task_record (read_as r 0) ≡ true → tests_from s begun at ≡ Failed (TaskBehindEvent at)
-  turn_late (Record.Task x) n e b t = tests_late s at begun b _ n e
-  turn_late (Record.Event c) n e b t = true_false false t refl
+  module _ (at : ℕ) where
+    pub turn_late : (x : Task) → Turns r (Some (Ok (at, Record.Task x))) t → begun ≡ true → tests_left r begun ≡ Failed (TaskBehindEvent at)
+    turn_late x w b = rw w.0 (tests_late _ _ begun b _ _ w.2.1)
 
-  pub turn_task : (r : Record) (n : ℕ) → record_at s at ≡ read_as r n → begun ≡ false → is_task_record (read_as r 0) ≡ true → tests_from s begun at ≡ tests_from s begun (at + n)
-  turn_task (Record.Task x) n e b t = tests_task s at begun b _ n e
-  turn_task (Record.Event c) n e b t = true_false false t refl
+    pub turn_task : (x : Task) → Turns r (Some (Ok (at, Record.Task x))) t → begun ≡ false → tests_left r begun ≡ tests_left t begun
+    turn_task x w b = rw (w.1, w.2.2) (tests_task _ _ begun b _ _ w.2.1)
 
-  pub turn_event : (r : Record) (n : ℕ) → record_at s at ≡ read_as r n → is_task_record (read_as r 0) ≡ false → tests_from s begun at ≡ tests_from s true (at + n)
-  turn_event (Record.Task x) n e t = true_false true refl t
-  turn_event (Record.Event c) n e t = tests_event s at begun _ n e
+    pub turn_event : (c : Call) → Turns r (Some (Ok (at, Record.Event c))) t → tests_left r begun ≡ tests_left t true
+    turn_event c w = rw (w.1, w.2.2) (tests_event _ _ begun _ _ w.2.1)
 
 -- ---- the length
 
 module _ (s : List ℕ) where
-  pub short_enough : length s ≤ longest → stream_of s ≡ tests_from s false 0
+  pub short_enough : length s ≤ longest → stream_of s ≡ first_of (record_tests false (items_from s 0))
   unfolding stream_of first_of
   short_enough h = rw (le-ltb longest (length s) h)

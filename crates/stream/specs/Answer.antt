@@ -1,12 +1,16 @@
 -- What the tests of a stream answer, as the rules' verdict.
-use Rattle.rules.specs.Numbers.{Verdict, Passed, Failed}
+use Rattle.std.specs.Prelude.{⊤, Result, Ok, Err}
+use Rattle.rules.specs.Numbers.{Refusal, Verdict, Passed, Failed}
 use Rattle.rules.specs.Numbers as Numbers
-use Rattle.stream.specs.declared.Stream.{Stream}
-use Rattle.stream.specs.declared.Stream.TheVariants as Stream
+use Rattle.stream.specs.declared.StreamRefusal.{StreamRefusal}
+use Rattle.stream.specs.declared.StreamRefusal.TheVariants as StreamRefusal
 
--- 12, 13 and 14, and their offsets, are those of this verdict (the rules' `number_of`, `value_of`)
-abbrev pub stream_in : Stream → Verdict
-stream_in Stream.Readable = Passed
-stream_in (Stream.Unreadable n) = Failed (Numbers.Unreadable n)
-stream_in (Stream.TaskBehindEvent n) = Failed (Numbers.TaskBehindEvent n)
-stream_in Stream.TooLong = Failed Numbers.InputTooLong
+-- 12, 13 and 14, and their offsets, are those of this refusal (the rules' `number_of`, `value_of`)
+abbrev pub refusal_in : StreamRefusal → Refusal
+refusal_in (StreamRefusal.Unreadable n) = Numbers.Unreadable n
+refusal_in (StreamRefusal.TaskBehindEvent n) = Numbers.TaskBehindEvent n
+refusal_in StreamRefusal.TooLong = Numbers.InputTooLong
+
+abbrev pub stream_in : Result ⊤ StreamRefusal → Verdict
+stream_in (Ok _) = Passed
+stream_in (Err e) = Failed (refusal_in e)

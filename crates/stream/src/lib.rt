@@ -7,101 +7,81 @@
 #![tactic(auto)]
 
 ghost use Rattle.std.specs.Prelude.{◌≡◌, false, suc, ◌<◌, ◌^◌};
-ghost use Rattle.rules.specs.Numbers.{first_of, number_in, given_with};
-ghost use Rattle.rules.specs.Records.{is_task_record, items_of, record_tests, stream_of, tasks_read};
-ghost use Rattle.records.specs.Read.{read_as};
-ghost use Rattle.stream.specs.Answer.{stream_in};
+ghost use Rattle.rules.specs.Numbers.{first_of};
+ghost use Rattle.rules.specs.Records.{items_of, record_tests, stream_of, tasks_read};
+ghost use Rattle.stream.specs.declared.StreamRefusal.TheVariants as StreamRefusal;
+ghost use Rattle.stream.specs.Answer.{refusal_in, stream_in};
 ghost use Rattle.stream.specs.Load.{table_in, added_to};
 
-use records::{Found, Record, read};
+use records::{Reader, Record, Unreadable};
+use refusals::Refused;
 use table::{MOST, Table, Task};
 
 // "input above 65,536 bytes"
 pub const LONGEST: usize = 65536;
 
-// What the tests of a stream find: readable, or the first that fails, with the offset of the record.
-#[derive(Clone, Copy)]
-pub enum Stream {
-    Readable,
+// Why a stream is refused: the first test that fails, with the offset of the record.
+#[derive(Clone, Copy, Debug, PartialEq, Eq)]
+pub enum StreamRefusal {
     Unreadable(usize),
     TaskBehindEvent(usize),
     TooLong,
 }
 
-impl Stream {
-    // "No.", and 0 where the stream is readable.
-    pub fn number(self) -> u8
-        ensures { result ≡ number_in (stream_in self) }
-    {
+impl Refused for StreamRefusal {
+    ghost means = { refusal_in };
+
+    // "No."
+    fn number(self) -> u8 {
         match self {
-            Stream::Readable => 0,
-            Stream::Unreadable(_) => refusals::UNREADABLE,
-            Stream::TaskBehindEvent(_) => refusals::TASK_BEHIND_EVENT,
-            Stream::TooLong => refusals::INPUT_TOO_LONG,
+            StreamRefusal::Unreadable(_) => refusals::UNREADABLE,
+            StreamRefusal::TaskBehindEvent(_) => refusals::TASK_BEHIND_EVENT,
+            StreamRefusal::TooLong => refusals::INPUT_TOO_LONG,
         }
     }
 
     // "offset of the record", "offset 65536".
-    pub fn offset(self) -> usize
-        ensures { result ≡ given_with (stream_in self) }
-    {
+    fn given(self) -> usize {
         match self {
-            Stream::Readable => 0,
-            Stream::Unreadable(offset) => offset,
-            Stream::TaskBehindEvent(offset) => offset,
-            Stream::TooLong => LONGEST,
+            StreamRefusal::Unreadable(offset) => offset,
+            StreamRefusal::TaskBehindEvent(offset) => offset,
+            StreamRefusal::TooLong => LONGEST,
         }
+    }
+}
+
+impl From<Unreadable> for StreamRefusal {
+    ghost from_gives = { λ e r. r ≡ StreamRefusal.Unreadable e.0 };
+
+    fn from(unreadable: Unreadable) -> StreamRefusal {
+        StreamRefusal::Unreadable(unreadable.0)
     }
 }
 
 // "tests 14, then all records from the front"
-pub fn stream_test(stream: &[u8]) -> Stream
+pub fn stream_test(stream: &[u8]) -> Result<(), StreamRefusal>
     ensures { stream_in result ≡ stream_of stream.now }
 {
     if LONGEST < stream.len() {
-        return Stream::TooLong;
+        return Err(StreamRefusal::TooLong);
     }
     records_test(stream)
 }
 
-// Whether a record is a task's.
-fn is_task(read: Record) -> bool
-    ensures { result ≡ is_task_record (read_as read 0) }
-{
-    match read {
-        Record::Task(_) => true,
-        Record::Event(_) => false,
-    }
-}
-
 // "all records from the front (at each, 12 before 13)"
-fn records_test(stream: &[u8]) -> Stream
+fn records_test(stream: &[u8]) -> Result<(), StreamRefusal>
     ensures { stream_in result ≡ first_of (record_tests false (items_of stream.now)) }
 {
-    let mut at: usize = 0;
     let mut begun = false;
-    while at < stream.len() {
-        let found = read(stream, at);
-        match found {
-            Found::End => {
-                return Stream::Readable;
-            }
-            Found::Bad => {
-                return Stream::Unreadable(at);
-            }
-            Found::Read(record, size) => {
-                let task = is_task(record);
-                if begun && task {
-                    return Stream::TaskBehindEvent(at);
-                }
-                if !task {
-                    begun = true;
-                }
-                at += size;
-            }
+    for item in Reader::new(stream) {
+        let (offset, record) = item?;
+        match record {
+            Record::Task(_) if begun => return Err(StreamRefusal::TaskBehindEvent(offset)),
+            Record::Task(_) => {}
+            Record::Event(_) => begun = true,
         }
     }
-    Stream::Readable
+    Ok(())
 }
 
 // A table and one task more. Past the room for them tasks are counted, and not kept.
@@ -109,8 +89,7 @@ fn added(table: Table, task: Task) -> Table
     requires { suc table.count < 2 ^ 64 }
     ensures { result ≡ added_to table task }
 {
-    let mut tasks = table.tasks;
-    let count = table.count;
+    let Table { count, mut tasks } = table;
     if count < MOST {
         tasks[count] = task;
     }
@@ -124,28 +103,14 @@ fn added(table: Table, task: Task) -> Table
 pub fn table_in(stream: &[u8]) -> Table
     ensures { result ≡ table_in (tasks_read stream.now) }
 {
-    let none = Task { c: 0, d: 0, t: 0 };
     let mut table = Table {
         count: 0,
-        tasks: [none; MOST],
+        tasks: [Task { c: 0, d: 0, t: 0 }; MOST],
     };
-    let mut at: usize = 0;
-    while at < stream.len() {
-        let found = read(stream, at);
-        match found {
-            Found::Read(record, size) => {
-                if let Record::Task(task) = record {
-                    let more = added(table, task);
-                    table = more;
-                }
-                at += size;
-            }
-            Found::End => {
-                return table;
-            }
-            Found::Bad => {
-                return table;
-            }
+    for item in Reader::new(stream) {
+        let Ok((_, record)) = item else { break };
+        if let Record::Task(task) = record {
+            table = added(table, task);
         }
     }
     table

@@ -1,43 +1,31 @@
-use Rattle.std.proofs.Common.{sym, ap, ◌∙◌, arith, rules}
-use Rattle.records.specs.declared.Record.{Record}
-use Rattle.records.specs.Read.{call_in, read_as}
-use Rattle.records.proofs.Marks.{lies_within}
-use Rattle.stream.proofs.Loading.{loaded_start, loaded_count, loaded_past, loaded_end, loaded_bad, loaded_event, loaded_task}
+use Rattle.std.proofs.Common.{arith, ap, ◌∙◌}
+use Rattle.stream.proofs.Loading.{loaded_start, loaded_end, loaded_bad, loaded_event, loaded_room, loaded_task}
 use Rattle.stream.proofs.table_in.Goals as goal
-use Rattle.stream.proofs.table_in.Goals.{in-Task, in_default}
 
-pub loop-at-init : goal.loop-at-init
-loop-at-init c = (search rules, loaded_start _)
+pub loop-item-init : goal.loop-item-init
+loop-item-init c =
+    let e = c.into_iter-item-iterator.ensures.into_iter_gives in
+    record { can = tt; ends = tt; loaded = loaded_start _ _ (ap (λ r. r.stream.now) e ∙ ap (λ b. b.now) c.new-item-items.ensures.0) (ap (λ r. r.at) e ∙ c.new-item-items.ensures.1) }
 
-pub added-more-requires : goal.added-more-requires
-added-more-requires c = omega (arith, loaded_count _ _ _ c.loop-at.invariant.1)
+pub added-table-requires : goal.added-table-requires
+added-table-requires c = omega (arith, loaded_room _ _ _ _ c.loop-item.invariant.loaded _ _ (rw (c.in-Ok.is, c.in-Task.is) at c.in-Some.ensures.steps))
 
-pub overflow_add-at : goal.overflow_add-at
-overflow_add-at c = omega (arith, lies_within _ _ _ _ c.in-Read.ensures)
+pub loop-item-preserved-in-Task : goal.loop-item-preserved-in-Task
+loop-item-preserved-in-Task c = record {
+  can = tt;
+  ends = tt;
+  loaded = loaded_task _ _ _ _ c.loop-item.invariant.loaded _ _ (rw (c.in-Ok.is, c.in-Task.is) at c.in-Some.ensures.steps) _ c.added-table.ensures;
+}
 
-pub loop-at-smaller : goal.loop-at-smaller
-loop-at-smaller c = omega (arith, lies_within _ _ _ _ c.in-Read.ensures)
+pub loop-item-preserved : goal.loop-item-preserved
+loop-item-preserved c = record {
+  can = tt;
+  ends = tt;
+  loaded = loaded_event _ _ _ _ c.loop-item.invariant.loaded _ _ (rw (c.in-Ok.is, c.in_default-record.is) at c.in-Some.ensures.steps);
+}
 
-pub loop-at-preserved : goal.loop-at-preserved
-loop-at-preserved c = (
-  (lies_within _ _ _ _ c.in-Read.ensures).1,
-  elim c.match-record.branch [
-    | in-Task w ↦
-        rw w.table-is
-        (loaded_task c.args.stream.now c.loop-at.at c.loop-at.table c.loop-at.invariant.1 w.in-Task.task c.in-Read.size w.added-more.result
-        (sym c.in-Read.ensures ∙ ap (λ (x : Record). read_as x c.in-Read.size) w.in-Task.is) w.added-more.ensures)
-    | in_default w ↦
-        rw w.table-is
-        (loaded_event c.args.stream.now c.loop-at.at c.loop-at.table c.loop-at.invariant.1 (call_in w.in_default.field-0) c.in-Read.size
-        (sym c.in-Read.ensures ∙ ap (λ (x : Record). read_as x c.in-Read.size) w.in_default.is))
-  ],
-)
+pub returns-in-None : goal.returns-in-None
+returns-in-None c = loaded_end _ _ _ _ c.loop-item.invariant.loaded c.in-None.ensures.steps
 
-pub returns-in-End : goal.returns-in-End
-returns-in-End c = loaded_end _ _ _ c.loop-at.invariant.1 (sym c.in-End.ensures)
-
-pub returns-in-Bad : goal.returns-in-Bad
-returns-in-Bad c = loaded_bad _ _ _ c.loop-at.invariant.1 (sym c.in-Bad.ensures)
-
-pub returns : goal.returns
-returns c = loaded_past _ _ _ c.loop-at.invariant.1 c.loop-at-test.false
+pub returns-in_default : goal.returns-in_default
+returns-in_default c = loaded_bad _ _ _ _ c.loop-item.invariant.loaded _ (rw c.in_default.is at c.in-Some.ensures.steps)
