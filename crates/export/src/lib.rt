@@ -23,8 +23,9 @@ use image::{BLOCK_BYTES, load, save};
 use kernel::asks::{Asked, Listed};
 use kernel::start::start;
 use kernel::{Answer, Called, MOST, Margin, Plan, TaskNo, Verdict};
+use refusals::Refused;
 use run::run;
-use stream::{Stream, stream_test, table_in};
+use stream::{stream_test, table_in};
 use text::below_zero;
 
 // The output's length; 0, and nothing is written, where `out` has less than 2 MiB.
@@ -41,19 +42,18 @@ pub fn meter_start(stream: &[u8], reading: u32, block: &mut [u8]) -> usize
     if block.len() != BLOCK_BYTES {
         return refusals::NOT_WHOLE as usize;
     }
-    let tested = stream_test(stream);
-    if let Stream::Readable = tested {
-        let table = table_in(stream);
-        let started = start(table, reading);
-        let verdict = started.verdict;
-        if let Verdict::Sound = verdict {
-            let first = started.block;
-            save(first, block);
-            return 0;
-        }
-        return verdict.number() as usize + 256 * verdict.task() as usize;
+    if let Err(refusal) = stream_test(stream) {
+        return refusal.number() as usize + 256 * refusal.given();
     }
-    tested.number() as usize + 256 * tested.offset()
+    let table = table_in(stream);
+    let started = start(table, reading);
+    let verdict = started.verdict;
+    if let Verdict::Sound = verdict {
+        let first = started.block;
+        save(first, block);
+        return 0;
+    }
+    verdict.number() as usize + 256 * verdict.task() as usize
 }
 
 // 0 where the margin is none, 1 where it is 0 or more, 2 where the job was late.

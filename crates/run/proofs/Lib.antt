@@ -3,6 +3,7 @@ pub mod Steps
 pub mod Laid
 pub mod Planning
 pub mod Along
+pub mod Turns
 pub mod Output
 pub mod Results
 pub mod Former

@@ -18,7 +18,7 @@ use jobs::Tasks;
 use kernel::{Answer, Block, Called, Margin, TaskNo};
 use levels::first_level;
 use lines::{Shown, event_line};
-use records::{Call, Found, Record, read};
+use records::{Call, Reader, Record};
 
 // How far a run has come: the block, the place behind the last line, how many events there were, the total of moves, and the bound of
 // demand 3.
@@ -166,23 +166,10 @@ pub fn events(stream: &[u8], block: Block, out: &mut [u8], place: usize) -> Tota
         moves: 0,
         bound: 0,
     };
-    let mut at: usize = 0;
-    while at < stream.len() {
-        let found = read(stream, at);
-        match found {
-            Found::Read(item, size) => {
-                if let Record::Event(next) = item {
-                    let after = event(now, next, out);
-                    now = after;
-                }
-                at += size;
-            }
-            Found::End => {
-                return totals_of(now);
-            }
-            Found::Bad => {
-                return totals_of(now);
-            }
+    for item in Reader::new(stream) {
+        let Ok((_, record)) = item else { break };
+        if let Record::Event(next) = record {
+            now = event(now, next, out);
         }
     }
     totals_of(now)

@@ -23,7 +23,8 @@ use kernel::start::start;
 use kernel::{Block, Verdict};
 use lines::{refusal_line, sum_line};
 use plans::plan_lines;
-use stream::{LONGEST, Stream, stream_test, table_in};
+use refusals::Refused;
+use stream::{LONGEST, stream_test, table_in};
 
 mod plans; // P lines
 mod events; // E lines
@@ -38,11 +39,10 @@ pub fn run(stream: &[u8], out: &mut [u8]) -> usize
     if out.len() < ROOM {
         return 0;
     }
-    let tested = stream_test(stream);
-    if let Stream::Readable = tested {
-        return report(stream, out);
+    match stream_test(stream) {
+        Ok(()) => report(stream, out),
+        Err(refusal) => refusal_line(out, 0, refusal.number() as u64, refusal.given() as u64),
     }
-    refusal_line(out, 0, tested.number() as u64, tested.offset() as u64)
 }
 
 // The output for a readable stream: its table is tested, and the block starts.

@@ -1,10 +1,9 @@
-use Prim.Native.Nat.{◌-◌}
-use lib.ListN.{length}
-use Rattle.run.proofs.Along.{Along}
+use Rattle.run.proofs.Turns.{Along}
 use Rattle.run.proofs.events.events.Given as goal
 
-abbrev pub invariant-loop-at : goal.invariant-loop-at
-invariant-loop-at l = Along l.stream l.initial.now.block l.initial.out l.place l.out l.now l.at
-
-abbrev pub decreases-loop-at : goal.decreases-loop-at
-decreases-loop-at l = length l.stream - l.at
+abbrev pub invariant-loop-item : goal.invariant-loop-item
+invariant-loop-item l = record {
+  can : (goal.iterator-loop-item).can_next l.item-iterator;
+  ends : (goal.iterator-loop-item).is_finite l.item-iterator;
+  along : Along l.stream l.initial.now.block l.initial.out l.place l.out l.now l.item-iterator;
+}
