@@ -54,6 +54,10 @@ found_one at a b e h g = sym (found_same at a h) ∙ ap (found_by at) e ∙ foun
 pub reader_one : {s : Bor (List ℕ)} {at : ℕ} (r x : Reader) → (r.stream ≡ s) × (r.at ≡ at) → (x.stream ≡ s) × (x.at ≡ at) → x ≡ r
 reader_one r x p q = ap₂ (λ (s : Bor (List ℕ)) (n : ℕ). record { stream = s; at = n }) (q.0 ∙ sym p.0) (q.1 ∙ sym p.1)
 
+-- a loop's iterator, made of a new reader, begins at the front
+pub from_front : {s : Bor (List ℕ)} {it r : Reader} → it ≡ r → (r.stream ≡ s) × (r.at ≡ 0) → (it.stream.now ≡ s.now) × (it.at ≡ 0)
+from_front e w = (ap (λ (x : Reader). x.stream.now) e ∙ ap (λ (b : Bor (List ℕ)). b.now) w.0, ap (λ (x : Reader). x.at) e ∙ w.1)
+
 -- ---- a turn of a reader is what stands at its place, and leads to one place
 
 abbrev Item : Type 0

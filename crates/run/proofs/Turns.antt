@@ -39,11 +39,11 @@ pub record Along (s : List ℕ) (b : Block) (before : List ℕ) (place : ℕ) (o
   pub left : Left (table_of b.tasks.table) before place (view_of b) (calls_read s) (view_of now.block) now.count (calls_in (items_from s r.at)) out now.place now.moves now.bound
 
 module _ (s : List ℕ) (b : Block) (before : List ℕ) (place : ℕ) where
-  pub along_start : Whole b → (r : Reader) → r.stream.now ≡ s → r.at ≡ 0
+  pub along_start : Whole b → (r : Reader) → (r.stream.now ≡ s) × (r.at ≡ 0)
       → Along s b before place before (record { block = b; place = place; count = 0; moves = 0; bound = 0 }) r
-  along_start w r e f =
+  along_start w r e =
       record {
-        stream = e;
+        stream = e.0;
         within = omega arith;
         whole = w;
         table = refl;
@@ -52,7 +52,7 @@ module _ (s : List ℕ) (b : Block) (before : List ℕ) (place : ℕ) where
         moves = omega arith;
         bound = omega arith;
         size = refl;
-        left = rw f (left_all (table_of b.tasks.table) before place (view_of b) (calls_read s));
+        left = rw e.1 (left_all (table_of b.tasks.table) before place (view_of b) (calls_read s));
       }
 
   module _ (out : List ℕ) (now : Progress) (r : Reader) (w : Along s b before place out now r) where

@@ -114,9 +114,9 @@ pub record Loaded (s : List ℕ) (r : Reader) (table : Table) : Type 0 where
   pub all : ahead ++ tasks_in (items_from s r.at) ≡ tasks_read s
 
 module _ (s : List ℕ) (r : Reader) where
-  pub loaded_start : r.stream.now ≡ s → r.at ≡ 0 → Loaded s r (record { count = 0; tasks = replicate most no_entry })
+  pub loaded_start : (r.stream.now ≡ s) × (r.at ≡ 0) → Loaded s r (record { count = 0; tasks = replicate most no_entry })
   unfolding table_in
-  loaded_start e f = record { stream = e; ahead = []; stored = refl; few = omega arith; all = rw f }
+  loaded_start e = record { stream = e.0; ahead = []; stored = refl; few = omega arith; all = rw e.1 }
 
   module _ (t : Reader) (table : Table) (now : Loaded s r table) where
     abbrev behind : List Rules.Task → List Rules.Task

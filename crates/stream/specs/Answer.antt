@@ -6,11 +6,11 @@ use Rattle.stream.specs.declared.StreamRefusal.{StreamRefusal}
 use Rattle.stream.specs.declared.StreamRefusal.TheVariants as StreamRefusal
 
 -- 12, 13 and 14, and their offsets, are those of this refusal (the rules' `number_of`, `value_of`)
-abbrev pub refusal_in : StreamRefusal → Refusal
-refusal_in (StreamRefusal.Unreadable n) = Numbers.Unreadable n
-refusal_in (StreamRefusal.TaskBehindEvent n) = Numbers.TaskBehindEvent n
-refusal_in StreamRefusal.TooLong = Numbers.InputTooLong
+abbrev pub stream_refusal_in : StreamRefusal → Refusal
+stream_refusal_in (StreamRefusal.Unreadable n) = Numbers.Unreadable n
+stream_refusal_in (StreamRefusal.TaskBehindEvent n) = Numbers.TaskBehindEvent n
+stream_refusal_in StreamRefusal.TooLong = Numbers.InputTooLong
 
 abbrev pub stream_in : Result ⊤ StreamRefusal → Verdict
 stream_in (Ok _) = Passed
-stream_in (Err e) = Failed (refusal_in e)
+stream_in (Err e) = Failed (stream_refusal_in e)

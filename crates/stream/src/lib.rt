@@ -10,7 +10,7 @@ ghost use Rattle.std.specs.Prelude.{◌≡◌, false, suc, ◌<◌, ◌^◌};
 ghost use Rattle.rules.specs.Numbers.{first_of};
 ghost use Rattle.rules.specs.Records.{items_of, record_tests, stream_of, tasks_read};
 ghost use Rattle.stream.specs.declared.StreamRefusal.TheVariants as StreamRefusal;
-ghost use Rattle.stream.specs.Answer.{refusal_in, stream_in};
+ghost use Rattle.stream.specs.Answer.{stream_refusal_in, stream_in};
 ghost use Rattle.stream.specs.Load.{table_in, added_to};
 
 use records::{Reader, Record, Unreadable};
@@ -29,7 +29,7 @@ pub enum StreamRefusal {
 }
 
 impl Refused for StreamRefusal {
-    ghost means = { refusal_in };
+    ghost means = { stream_refusal_in };
 
     // "No."
     fn number(self) -> u8 {

@@ -19,7 +19,7 @@ refusal_line-requires c = omega (arith, c.if-out-lt-ROOM.false)
 
 pub returns-in-Err : goal.returns-in-Err
 returns-in-Err c = let s = c in let put = c.refusal_line.ensures in (
-      enough s.args.stream.now s.args.out.now (omega (arith, c.if-out-lt-ROOM.false))
-          (numbers_put c.number.ensures c.given.ensures (stream_refused s.args.stream.now _ _ refl c.in-Err.ensures) put.0),
-      omega (arith, put.1, puts_length put.0, c.if-out-lt-ROOM.false),
-    )
+  enough s.args.stream.now s.args.out.now (omega (arith, c.if-out-lt-ROOM.false))
+      (numbers_put c.number.ensures c.given.ensures (stream_refused s.args.stream.now _ _ refl c.in-Err.ensures) put.0),
+  omega (arith, put.1, puts_length put.0, c.if-out-lt-ROOM.false),
+)

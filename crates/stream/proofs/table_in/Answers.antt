@@ -1,11 +1,10 @@
-use Rattle.std.proofs.Common.{arith, ap, ◌∙◌}
+use Rattle.std.proofs.Common.{arith}
+use Rattle.records.proofs.Results.{from_front}
 use Rattle.stream.proofs.Loading.{loaded_start, loaded_end, loaded_bad, loaded_event, loaded_room, loaded_task}
 use Rattle.stream.proofs.table_in.Goals as goal
 
 pub loop-item-init : goal.loop-item-init
-loop-item-init c =
-    let e = c.into_iter-item-iterator.ensures.into_iter_gives in
-    record { can = tt; ends = tt; loaded = loaded_start _ _ (ap (λ r. r.stream.now) e ∙ ap (λ b. b.now) c.new-item-items.ensures.0) (ap (λ r. r.at) e ∙ c.new-item-items.ensures.1) }
+loop-item-init c = record { can = tt; ends = tt; loaded = loaded_start _ _ (from_front c.into_iter-item-iterator.ensures.into_iter_gives c.new-item-items.ensures) }
 
 pub added-table-requires : goal.added-table-requires
 added-table-requires c = omega (arith, loaded_room _ _ _ _ c.loop-item.invariant.loaded _ _ (rw (c.in-Ok.is, c.in-Task.is) at c.in-Some.ensures.steps))

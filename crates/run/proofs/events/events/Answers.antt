@@ -1,12 +1,11 @@
-use Rattle.std.proofs.Common.{ap, ◌∙◌}
+use Rattle.records.proofs.Results.{from_front}
 use Rattle.run.proofs.Turns.{along_start, along_begins, along_room, along_end, along_bad, along_task, along_event}
 use Rattle.run.proofs.events.events.Goals as goal
 use Rattle.run.proofs.events.events.Goals.{in-None, in-Some+in_default}
 
 pub loop-item-init : goal.loop-item-init
 loop-item-init c =
-    let e = c.into_iter-item-iterator.ensures.into_iter_gives in
-    record { can = tt; ends = tt; along = along_start _ _ _ _ c.requires.0 _ (ap (λ r. r.stream.now) e ∙ ap (λ b. b.now) c.new-item-items.ensures.0) (ap (λ r. r.at) e ∙ c.new-item-items.ensures.1) }
+    record { can = tt; ends = tt; along = along_start _ _ _ _ c.requires.0 _ (from_front c.into_iter-item-iterator.ensures.into_iter_gives c.new-item-items.ensures) }
 
 pub event-now-requires : goal.event-now-requires
 event-now-requires c =
