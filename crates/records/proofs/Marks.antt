@@ -6,7 +6,6 @@ use Rattle.laws.specs.Words.{pick}
 use Rattle.rules.specs.Records.{Found, End, Bad, found_by, record_at}
 use Rattle.rules.proofs.Streams.{at_end, read_within}
 use Rattle.records.specs.declared.Mark.{Mark}
-use Rattle.records.specs.declared.Mark.TheVariants as Mark
 use Rattle.records.specs.declared.Record.{Record}
 use Rattle.records.specs.Read.{record_in, read_as, mark_in, size_in, says_in}
 

@@ -5,11 +5,8 @@ use Rattle.rules.specs.Calls as Calls
 use Rattle.rules.specs.Records as Rules
 use Rattle.table.specs.Stored.{task_of}
 use Rattle.records.specs.declared.Mark.{Mark}
-use Rattle.records.specs.declared.Mark.TheVariants as Mark
 use Rattle.records.specs.declared.Call.{Call}
-use Rattle.records.specs.declared.Call.TheVariants as Call
 use Rattle.records.specs.declared.Record.{Record}
-use Rattle.records.specs.declared.Record.TheVariants as Record
 use Rattle.records.specs.declared.Unreadable.{Unreadable}
 
 abbrev pub call_in : Call → Calls.Call

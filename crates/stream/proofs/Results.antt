@@ -7,7 +7,6 @@ use Rattle.rules.specs.Numbers.{longest, number_in, given_with}
 use Rattle.rules.specs.Records.{stream_of}
 use Rattle.rules.proofs.Readable.{stream_numbers}
 use Rattle.stream.specs.declared.StreamRefusal.{StreamRefusal}
-use Rattle.stream.specs.declared.StreamRefusal.TheVariants as StreamRefusal
 use Rattle.stream.specs.Answer.{stream_in}
 
 -- the one that has this number, and this offset with it

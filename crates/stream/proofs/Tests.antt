@@ -1,5 +1,5 @@
 -- What the tests of a stream find, turn by turn of its reader. Assumes nothing.
-use Rattle.std.proofs.Common.{◌≡◌, ℕ, ◌≤◌, Bool, true, false, List, Option, Some, None, Result, Ok, Err, length, refl, ◌∙◌}
+use Rattle.std.proofs.Common.{◌≡◌, ℕ, ◌≤◌, Bool, true, false, List, Some, None, Ok, Err, length}
 use borrow.Author.Tests.{le-ltb}
 use Rattle.rules.specs.Numbers.{longest, Verdict, Passed, Failed, Unreadable, TaskBehindEvent, first_of}
 use Rattle.rules.specs.Records.{items_from, record_tests, stream_of}

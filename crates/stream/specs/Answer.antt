@@ -3,7 +3,6 @@ use Rattle.std.specs.Prelude.{⊤, Result, Ok, Err}
 use Rattle.rules.specs.Numbers.{Refusal, Verdict, Passed, Failed}
 use Rattle.rules.specs.Numbers as Numbers
 use Rattle.stream.specs.declared.StreamRefusal.{StreamRefusal}
-use Rattle.stream.specs.declared.StreamRefusal.TheVariants as StreamRefusal
 
 -- 12, 13 and 14, and their offsets, are those of this refusal (the rules' `number_of`, `value_of`)
 abbrev pub stream_refusal_in : StreamRefusal → Refusal

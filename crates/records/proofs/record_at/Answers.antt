@@ -1,7 +1,6 @@
-use Rattle.std.proofs.Common.{◌≡◌, Some, sym, ◌∙◌, arith}
+use Rattle.std.proofs.Common.{sym, ◌∙◌, arith}
 use Rattle.std.proofs.lemmas.Result.{err_from_is_err_and}
 use Rattle.rules.proofs.Streams.{at_end}
-use Rattle.records.specs.Read.{mark_in, size_in, found_in}
 use Rattle.records.proofs.Marks.{short_at, unknown_at, cut_at, whole_at}
 use Rattle.records.proofs.record_at.Goals as goal
 

@@ -1,6 +1,5 @@
 use mathlib.Core.Path.{sym, ◌∙◌}
 use native.Mathlib.Omega.{arith}
-use borrow.Author.Rules.{rules}
 use Rattle.rules.proofs.Readable.{stream_numbers}
 use Rattle.stream.proofs.Tests.{short_enough}
 use Rattle.stream.proofs.stream_test.Goals as goal
