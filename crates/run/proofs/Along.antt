@@ -1,33 +1,26 @@
 -- The line of an event; and the lines and totals of what is left. Assumes nothing.
 use mathlib.Core.Path.{◌≡◌, refl, sym, ap, ◌∙◌}
 use mathlib.Core.List.{List, [], ◌∷◌, ◌++◌, append_assoc, append-nil}
-use Prim.Native.Nat.{ℕ, suc, ◌+◌, ◌*◌, ◌^◌, ◌≤◌, ◌<◌}
+use Prim.Native.Nat.{ℕ, suc, ◌+◌}
 use native.Mathlib.Omega.{arith}
 use lib.ListN.{length}
 use Rattle.laws.specs.Words.{sum, Puts}
-use Rattle.laws.proofs.Buffers.{puts_none, puts_then, puts_as, puts_length}
-use Rattle.rules.specs.Numbers.{longest, number_of}
+use Rattle.laws.proofs.Buffers.{puts_none, puts_then, puts_as}
+use Rattle.rules.specs.Numbers.{number_of}
 use Rattle.rules.specs.Table.{Task}
 use Rattle.rules.specs.State.{State, waiting}
 use Rattle.rules.specs.Calls.{Call, moves_in, step_of}
 use Rattle.rules.specs.Histories.{events_of, total_of, bound_of, bound_by}
 use Rattle.rules.specs.Lines.{task_in, line_of, event_lines}
-use Rattle.rules.specs.Records.{End, Bad, Read, TaskRecord, EventRecord, record_at, items_from, calls_in, calls_read}
 use Rattle.rules.specs.Text.{event_text, events_text}
-use Rattle.rules.proofs.Streams.{end_at, read_within, calls_end, calls_bad, calls_more, calls_same}
-use Rattle.table.specs.Stored.{table_of}
 use Rattle.lists.specs.Answers.{who_in}
-use Rattle.jobs.specs.declared.Tasks.{Tasks}
 use Rattle.kernel.specs.declared.Answer.TheVariants.{Accepted, Refused}
-use Rattle.kernel.specs.declared.Block.{Block}
 use Rattle.kernel.specs.declared.Called.{Called}
 use Rattle.kernel.specs.declared.Refusal.{Refusal}
 use Rattle.kernel.specs.Answers.{refusal_in}
-use Rattle.kernel.specs.Block.{view_of, Whole}
+use Rattle.kernel.specs.Block.{view_of}
 use Rattle.lines.specs.Shown.{shown_as}
-use Rattle.run.specs.declared.events.Progress.{Progress}
-use Rattle.lines.specs.Room.{event_room}
-use Rattle.run.specs.Run.{events_room, step_in, totals_of, Begins, Steps, Ends}
+use Rattle.run.specs.Run.{step_in}
 use Rattle.std.specs.Prelude.{None, Option}
 use Rattle.table.specs.declared.TaskNo.{TaskNo}
 
