@@ -84,7 +84,8 @@ fn records_test(stream: &[u8]) -> Result<(), StreamRefusal>
     Ok(())
 }
 
-// A table and one task more. Past the room for them tasks are counted, and not kept.
+// A table and one task more. Past the room for them tasks are counted, and not kept. (By index: a slice's `get_mut` does not promise how a
+// write through it comes back.)
 fn added(table: Table, task: Task) -> Table
     requires { suc table.count < 2 ^ 64 }
     ensures { result ≡ added_to table task }
