@@ -19,37 +19,34 @@ ghost use Rattle.std.specs.Prelude.{◌≡◌, ◌≤◌, length};
 ghost use Rattle.laws.specs.Words.{written};
 ghost use Rattle.image.specs.Bytes.{size, bytes_of, block_in};
 
-use kernel::Block;
-use put::{put_jobs, put_now, put_ready, put_tasks};
-use table::{MOST, PLACES};
-use take::{jobs_at, now_at, ready_at, tasks_at};
+use crate::part::{Part, put_all, take_all};
+use jobs::{Job, Tasks};
+use kernel::{Block, Now};
+use ready::Ready;
+use table::PLACES;
 
-mod put; // parts of a block into bytes
-mod take; // parts of a block out of bytes
+mod part; // what a part is: bytes, numbers, arrays
+mod parts; // the parts of a block
 
 // The places where its parts begin; the tasks stand at its front.
-const JOBS: usize = 8 + 12 * MOST + 4 * MOST;
+const JOBS: usize = Tasks::SIZE;
 
-const READY: usize = JOBS + 10 * PLACES;
+const READY: usize = JOBS + Job::SIZE * PLACES;
 
-const NOW: usize = READY + 2 + 3 * PLACES + 8;
+const NOW: usize = READY + Ready::SIZE;
 
 // How many bytes a block has.
-pub const BLOCK_BYTES: usize = NOW + 12;
+pub const BLOCK_BYTES: usize = NOW + Now::SIZE;
 
 // Puts the block into the first BLOCK_BYTES of the buffer; the bytes behind them stay.
 pub fn save(block: Block, bytes: &mut [u8])
     requires { size ≤ length bytes.old }
     ensures { bytes.new ≡ written (bytes_of block) bytes.old }
 {
-    let tasks = block.tasks;
-    put_tasks(bytes, 0, tasks);
-    let jobs = block.jobs;
-    put_jobs(bytes, JOBS, jobs);
-    let ready = block.ready;
-    put_ready(bytes, READY, ready);
-    let time = block.now;
-    put_now(bytes, NOW, time);
+    block.tasks.put(bytes, 0);
+    put_all(bytes, JOBS, &block.jobs);
+    block.ready.put(bytes, READY);
+    block.now.put(bytes, NOW);
 }
 
 // The block whose bytes these are.
@@ -57,14 +54,10 @@ pub fn load(bytes: &[u8]) -> Block
     requires { size ≤ length bytes.now }
     ensures { result ≡ block_in bytes.now }
 {
-    let tasks = tasks_at(bytes, 0);
-    let jobs = jobs_at(bytes, JOBS);
-    let ready = ready_at(bytes, READY);
-    let now = now_at(bytes, NOW);
     Block {
-        tasks,
-        jobs,
-        ready,
-        now,
+        tasks: Part::take(bytes, 0),
+        jobs: take_all(bytes, JOBS),
+        ready: Part::take(bytes, READY),
+        now: Part::take(bytes, NOW),
     }
 }

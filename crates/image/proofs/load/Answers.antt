@@ -3,4 +3,4 @@ use Rattle.image.proofs.load.Goals as goal
 
 pub returns : goal.returns
 unfolding block_in
-returns c = rw (c.tasks_at-tasks.ensures, c.jobs_at-jobs.ensures, c.ready_at-ready.ensures, c.now_at-now.ensures)
+returns c = rw (c.take.ensures, c.take_all.ensures, c.take-2.ensures, c.take-3.ensures)

@@ -1,0 +1,8 @@
+use native.Mathlib.Omega.{arith}
+use Rattle.laws.proofs.Buffers.{puts_to, puts_behind}
+use Rattle.image.proofs.parts.StoredPart.put.Goals as goal
+
+pub returns : goal.returns
+returns c = let two = puts_behind c.put_all.ensures c.put_all-2.ensures (omega arith) in
+    let three = puts_behind two c.put_all-3.ensures (omega arith) in
+    puts_to (omega arith) (puts_behind three c.put.ensures (omega arith))
