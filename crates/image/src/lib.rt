@@ -55,9 +55,9 @@ pub fn load(bytes: &[u8]) -> Block
     ensures { result ≡ block_in bytes.now }
 {
     Block {
-        tasks: Part::take(bytes, 0),
+        tasks: Tasks::take(bytes, 0),
         jobs: take_all(bytes, JOBS),
-        ready: Part::take(bytes, READY),
-        now: Part::take(bytes, NOW),
+        ready: Ready::take(bytes, READY),
+        now: Now::take(bytes, NOW),
     }
 }

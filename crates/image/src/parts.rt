@@ -26,9 +26,9 @@ impl Part for Task {
 
     fn take(bytes: &[u8], at: usize) -> Task {
         Task {
-            c: Part::take(bytes, at),
-            d: Part::take(bytes, at + 4),
-            t: Part::take(bytes, at + 8),
+            c: u32::take(bytes, at),
+            d: u32::take(bytes, at + 4),
+            t: u32::take(bytes, at + 8),
         }
     }
 }
@@ -47,7 +47,7 @@ impl Part for TaskNo {
     }
 
     fn take(bytes: &[u8], at: usize) -> TaskNo {
-        TaskNo(Part::take(bytes, at))
+        TaskNo(u8::take(bytes, at))
     }
 }
 
@@ -68,7 +68,7 @@ impl Part for Tasks {
     }
 
     fn take(bytes: &[u8], at: usize) -> Tasks {
-        let count = Part::take(bytes, at);
+        let count = usize::take(bytes, at);
         let tasks = take_all(bytes, at + 8);
         let rising = take_all(bytes, at + (8 + 12 * MOST));
         Tasks {
@@ -99,7 +99,7 @@ impl Part for Last {
 
     fn take(bytes: &[u8], at: usize) -> Last {
         if bool::take(bytes, at) {
-            return Last::At(Part::take(bytes, at + 1));
+            return Last::At(u64::take(bytes, at + 1));
         }
         Last::Never
     }
@@ -121,8 +121,8 @@ impl Part for Job {
 
     fn take(bytes: &[u8], at: usize) -> Job {
         Job {
-            active: Part::take(bytes, at),
-            last: Part::take(bytes, at + 1),
+            active: bool::take(bytes, at),
+            last: Last::take(bytes, at + 1),
         }
     }
 }
@@ -148,7 +148,7 @@ impl Part for Who {
 
     fn take(bytes: &[u8], at: usize) -> Who {
         if bool::take(bytes, at) {
-            return Who::One(Part::take(bytes, at + 1));
+            return Who::One(TaskNo::take(bytes, at + 1));
         }
         Who::Nobody
     }
@@ -176,14 +176,14 @@ impl Part for Stored {
             first: take_all(bytes, at),
             last: take_all(bytes, at + PLACES),
             next: take_all(bytes, at + 2 * PLACES),
-            map: Part::take(bytes, at + 3 * PLACES),
+            map: u64::take(bytes, at + 3 * PLACES),
         }
     }
 }
 
 // Who runs and who waits.
 impl Part for Ready {
-    const SIZE: usize = 2 + (3 * PLACES + 8);
+    const SIZE: usize = 2 + Stored::SIZE;
 
     ghost SIZE = { ready_size };
 
@@ -197,8 +197,8 @@ impl Part for Ready {
     }
 
     fn take(bytes: &[u8], at: usize) -> Ready {
-        let running = Part::take(bytes, at);
-        let lists = Lists::of(Part::take(bytes, at + 2));
+        let running = Who::take(bytes, at);
+        let lists = Lists::of(Stored::take(bytes, at + 2));
         Ready { running, lists }
     }
 }
@@ -219,8 +219,8 @@ impl Part for Now {
 
     fn take(bytes: &[u8], at: usize) -> Now {
         Now {
-            clock: Part::take(bytes, at),
-            reading: Part::take(bytes, at + 8),
+            clock: u64::take(bytes, at),
+            reading: u32::take(bytes, at + 8),
         }
     }
 }
