@@ -2,9 +2,8 @@
 // its own (tools/cases.py); it is compared with the file stdout.
 #![tactic(auto)]
 
-use files::{Ended, Input, Watched};
-use std::env;
 use std::fs::File;
+use std::{env, io};
 
 fn main(rt: HostRuntime) {
     match env::args(&rt) {
@@ -13,37 +12,20 @@ fn main(rt: HostRuntime) {
                 named(&rt, name.as_str());
             }
         }
-        Err(e) => files::fail(&rt, "argument", e.raw_os_error()),
+        Err(e) => files::fail(&rt, "argument", e),
     }
 }
 
-// The case of this name.
+// The case of this name: its name and its lines.
 fn named(rt: &HostRuntime, name: &str) {
     let _ = println!(rt; "== {name}");
-    match File::open(rt, name) {
-        Ok(file) => case(rt, name, file),
-        Err(e) => files::fail(rt, name, e.raw_os_error()),
+    if let Err(e) = case(rt, name) {
+        files::fail(rt, name, e);
     }
 }
 
 // Its lines, from the file that holds its stream.
-fn case(rt: &HostRuntime, name: &str, file: File) {
-    let mut stream = run::input_room();
-    let mut from = Watched {
-        inner: file,
-        error: None,
-    };
-    let input = files::read_all(&mut from, &mut stream);
-    let Input::Bytes(length) = input else {
-        files::fail(rt, name, from.error);
-        return;
-    };
-    let mut to = Watched {
-        inner: rt.stdout(),
-        error: None,
-    };
-    let ended = files::print(&stream[..length], &mut to);
-    if let Ended::NotWritten = ended {
-        files::fail(rt, name, to.error);
-    }
+fn case(rt: &HostRuntime, name: &str) -> io::Result<()> {
+    files::run_all(&mut File::open(rt, name)?, &mut rt.stdout())?;
+    Ok(())
 }

@@ -1,115 +1,97 @@
 // Streams from a reader and outputs to a writer. What is read and written is the system's, and no contract can say it; but a read or a
-// write that fails is told.
+// write that fails is told, and where a reader's or a writer's bytes are known, so is what becomes of them.
 #![tactic(auto)]
 
-ghost use Rattle.files.specs.Ends.{ReadInto, EndsAs};
+ghost use Rattle.std.specs.Prelude.{◌≡◌, ◌⊎◌, take, length, IfOk, OnOk, IfErr, IfSome};
+ghost use Rattle.std.specs.Io.KnownBytes.{Consumes, Appends};
+ghost use Rattle.rules.specs.Runner.{output_of};
+ghost use Rattle.files.specs.declared.Failure.TheVariants.{Reading, Writing};
+ghost use Rattle.files.specs.Ends.{ReadInto, EndsAs, front_of, OnUnread};
 
 use std::io;
 use std::io::{Read, Write};
 
-// How many bytes were read, or that a read failed.
-#[derive(Clone, Copy)]
-pub enum Input {
-    Bytes(usize),
-    Failed,
-}
-
 // Reads to the end of the input, or until the buffer is full. A read that fails is told, whatever was read before it.
-pub fn read_all<R: Read>(from: &mut R, buffer: &mut [u8]) -> Input
-    ensures { ReadInto result buffer.new }
+pub fn read_all<R: Read>(from: &mut R, buffer: &mut [u8]) -> io::Result<usize>
+    ensures read { ReadInto result buffer.new }
+    ensures taken { IfOk result (λ n. Consumes (R.remaining from.old) (R.remaining from.new) (take n buffer.new)) }
+    ensures known { IfOk result (λ n. IfSome (R.remaining from.old) (λ bytes. take n buffer.new ≡ take (length buffer.new) bytes)) }
 {
-    let mut at: usize = 0;
+    let mut at = 0;
     while at < buffer.len() {
-        let got = from.read(&mut buffer[at..]);
-        let Ok(more) = got else {
-            return Input::Failed;
-        };
-        if more == 0 {
-            return Input::Bytes(at);
+        match from.read(&mut buffer[at..])? {
+            0 => break,
+            more => at += more,
         }
-        at += more;
     }
-    Input::Bytes(at)
+    Ok(at)
 }
 
-// How a run ended: its stream passed the tests or was refused, or its output could not be written, or not all of it.
-#[derive(Clone, Copy)]
+// How a run ended whose output was written: its stream passed the tests or was refused.
+#[derive(Clone, Copy, Debug, PartialEq, Eq)]
 pub enum Ended {
     Accepted,
     Refused,
-    NotWritten,
 }
 
 // The runner's whole output for a stream, written to a writer. Only that of a refused stream begins with an X.
-pub fn print<W: Write>(stream: &[u8], to: &mut W) -> Ended
-    ensures { EndsAs stream.now result }
+pub fn print<W: Write>(stream: &[u8], to: &mut W) -> io::Result<Ended>
+    ensures ends { EndsAs stream.now result }
+    ensures written { OnOk result (Appends (W.contents to.old) (W.contents to.new) (output_of stream.now)) }
 {
     let mut out = run::output_room();
     let size = run::run(stream, &mut out);
-    if to.write_all(&out[..size]).is_err() {
-        return Ended::NotWritten;
-    }
+    to.write_all(&out[..size])?;
     if out[0] == b'X' {
-        return Ended::Refused;
+        return Ok(Ended::Refused);
     }
-    Ended::Accepted
+    Ok(Ended::Accepted)
 }
 
-// ---- why a read or a write failed
-
-// A reader or a writer, and the system's number of the last error that it gave.
-#[derive(Drop)]
-pub struct Watched<S> {
-    pub inner: S,
-    pub error: Option<i32>,
+// Why a run did not end: its stream could not be read, or its output could not be written, or not all of it.
+#[derive(Clone, Copy, Debug)]
+pub enum Failure {
+    Reading(io::Error),
+    Writing(io::Error),
 }
 
-impl<R: Read> Read for Watched<R> {
-    fn read(&mut self, buffer: &mut [u8]) -> io::Result<usize> {
-        match self.inner.read(buffer) {
-            Ok(n) => Ok(n),
-            Err(e) => {
-                self.error = e.raw_os_error();
-                Err(e)
-            }
+// The run of the stream that a reader gives: read, and its output written.
+pub fn run_all<R: Read, W: Write>(from: &mut R, to: &mut W) -> Result<Ended, Failure>
+    ensures ends { IfSome (R.remaining from.old) (λ bytes. EndsAs (front_of bytes) result) }
+    ensures written { IfSome (R.remaining from.old) (λ bytes.
+        OnOk result (Appends (W.contents to.old) (W.contents to.new) (output_of (front_of bytes)))) }
+    ensures unread { IfErr result (λ e. OnUnread e (to.new ≡ to.old)) }
+{
+    // a byte more than a stream may have, so that a longer one is seen
+    let mut stream = run::input_room();
+    let length = read_all(from, &mut stream).map_err(Failure::Reading)?;
+    print(&stream[..length], to).map_err(Failure::Writing)
+}
+
+impl From<Failure> for io::Error {
+    ghost from_gives = { λ failure e. (failure ≡ Reading e) ⊎ (failure ≡ Writing e) };
+
+    fn from(failure: Failure) -> io::Error {
+        match failure {
+            Failure::Reading(e) | Failure::Writing(e) => e,
         }
-    }
-}
-
-impl<W: Write> Write for Watched<W> {
-    fn write(&mut self, bytes: &[u8]) -> io::Result<usize> {
-        match self.inner.write(bytes) {
-            Ok(n) => Ok(n),
-            Err(e) => {
-                self.error = e.raw_os_error();
-                Err(e)
-            }
-        }
-    }
-
-    fn flush(&mut self) -> io::Result<()> {
-        self.inner.flush()
     }
 }
 
 // A line on standard error: what failed, a colon, and the system's words for the error.
-pub fn fail<R: Eprint + Alloc>(rt: &R, what: &str, error: Option<i32>) {
-    let Some(code) = error else {
+pub fn fail<R: Eprint + Alloc>(rt: &R, what: &str, error: io::Error) {
+    let Some(code) = error.raw_os_error() else {
         let _ = eprintln!(rt; "{what}: it failed");
         return;
     };
-    let reason = io::Error::from_raw_os_error(code);
-    let Ok(text) = format!(in rt.alloc(); "{reason}") else {
+    let Ok(text) = format!(in rt.alloc(); "{error}") else {
         let _ = eprintln!(rt; "{what}: error {code}");
         return;
     };
     // the library puts the number behind the words
-    match text.as_str().split_once(" (os error ") {
-        Some((words, _)) => {
-            let _ = eprintln!(rt; "{what}: {words}");
-        }
-        None => {
-            let _ = eprintln!(rt; "{what}: {text}");
-        }
-    }
+    let text = text.as_str();
+    let words = text
+        .split_once(" (os error ")
+        .map_or(text, |(words, _)| words);
+    let _ = eprintln!(rt; "{what}: {words}");
 }
