@@ -17,9 +17,9 @@ fn main(rt: HostRuntime) -> ExitCode {
         Ok(Ended::Accepted) => say(&rt, b"accepted\n"),
         Ok(Ended::Refused) => say(&rt, b"refused\n"),
         Err(Failure::Reading(e)) => files::fail(&rt, "meter: standard input", e),
-        Err(Failure::Writing(e)) if e.kind() == ErrorKind::BrokenPipe => return ExitCode::from(
-            BROKEN_PIPE,
-        ),
+        Err(Failure::Writing(e)) if e.kind() == ErrorKind::BrokenPipe => {
+            return ExitCode::from(BROKEN_PIPE);
+        }
         Err(Failure::Writing(e)) => files::fail(&rt, "meter: standard output", e),
     }
     ExitCode::SUCCESS
