@@ -7,7 +7,7 @@ use Rattle.std.specs.Io.KnownBytes.{Consumes, IsAtEnd}
 use Rattle.io.specs.Counts.{IsPrefixLen}
 use borrow.Rule.Slice.PartMut.{put_mid, post_of}
 use Rattle.rules.specs.Numbers.{longest}
-use Rattle.files.specs.Ends.{ReadInto, front_of}
+use Rattle.files.specs.Ends.{ReadInto, stream_front}
 
 -- what `&buffer[..n]` asks
 pub bytes_read : {E : Type 0} (buffer : List ℕ) {r : Result ℕ E} {n : ℕ} → r ≡ Ok n → ReadInto r buffer → IsPrefixLen n buffer
@@ -42,7 +42,7 @@ full_given n buffer (Some x) (Some y) h p =
 
 -- what holds of the bytes that were read holds of the front of the known ones
 pub of_front : (size : ℕ) (known : Option (List ℕ)) (got : List ℕ) (P : List ℕ → Type 0) → size ≡ suc longest
-    → IfSome known (λ bytes. got ≡ take size bytes) → P got → IfSome known (λ bytes. P (front_of bytes))
+    → IfSome known (λ bytes. got ≡ take size bytes) → P got → IfSome known (λ bytes. P (stream_front bytes))
 of_front size None got P e h p = tt
 of_front size (Some x) got P e h p = subst P (h ∙ ap (λ n. take n x) e) p
 

@@ -22,8 +22,8 @@ abbrev pub EndsAs : {E : Type 0} → List ℕ → Result Ended E → Type 0
 EndsAs s r = IfOk r (λ ended. ended ≡ ended_by (first_of (runner_tests s)))
 
 -- what is read of known bytes: all, but no more than one byte above the longest stream
-abbrev pub front_of : List ℕ → List ℕ
-front_of bytes = take (suc longest) bytes
+abbrev pub stream_front : List ℕ → List ℕ
+stream_front bytes = take (suc longest) bytes
 
 -- the fact P, where it was the reading that failed
 abbrev pub OnUnread : Failure → Type 0 → Type 0

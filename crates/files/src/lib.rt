@@ -6,7 +6,7 @@ ghost use Rattle.std.specs.Prelude.{◌≡◌, ◌⊎◌, take, length, IfOk, On
 ghost use Rattle.std.specs.Io.KnownBytes.{Consumes, Appends};
 ghost use Rattle.rules.specs.Runner.{output_of};
 ghost use Rattle.files.specs.declared.Failure.TheVariants.{Reading, Writing};
-ghost use Rattle.files.specs.Ends.{ReadInto, EndsAs, front_of, OnUnread};
+ghost use Rattle.files.specs.Ends.{ReadInto, EndsAs, stream_front, OnUnread};
 
 use std::io;
 use std::io::{Read, Write};
@@ -57,9 +57,9 @@ pub enum Failure {
 
 // The run of the stream that a reader gives: read, and its output written.
 pub fn run_all<R: Read, W: Write>(from: &mut R, to: &mut W) -> Result<Ended, Failure>
-    ensures ends { IfSome (R.remaining from.old) (λ bytes. EndsAs (front_of bytes) result) }
+    ensures ends { IfSome (R.remaining from.old) (λ bytes. EndsAs (stream_front bytes) result) }
     ensures written { IfSome (R.remaining from.old) (λ bytes.
-        OnOk result (Appends (W.contents to.old) (W.contents to.new) (output_of (front_of bytes)))) }
+        OnOk result (Appends (W.contents to.old) (W.contents to.new) (output_of (stream_front bytes)))) }
     ensures unread { IfErr result (λ e. OnUnread e (to.new ≡ to.old)) }
 {
     // a byte more than a stream may have, so that a longer one is seen
