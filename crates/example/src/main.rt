@@ -12,6 +12,7 @@ use lent::{clock_through, done_through, release_through};
 use lines::{Shown, event_line};
 use std::io;
 use std::io::Write;
+use text::Text;
 
 // Room for the longest E line.
 const LINE: usize = 129;
@@ -216,7 +217,12 @@ fn event(out: &impl Print, count: u64, called: Called) {
 
 fn line(out: &impl Print, shown: Shown) {
     let mut buffer = [0u8; LINE];
-    let end = event_line(&mut buffer, 0, shown);
+    let mut written = Text {
+        buffer: &mut buffer,
+        at: 0,
+    };
+    event_line(&mut written, shown);
+    let end = written.at;
     text(out, &buffer[..end]);
 }
 

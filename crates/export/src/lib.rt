@@ -26,7 +26,6 @@ use kernel::{Answer, Called, MOST, Margin, Plan, TaskNo, Verdict};
 use refusals::Refused;
 use run::run;
 use stream::{stream_test, table_in};
-use text::below_zero;
 
 // The output's length; 0, and nothing is written, where `out` has less than 2 MiB.
 pub fn meter_run(stream: &[u8], out: &mut [u8]) -> usize
@@ -77,12 +76,7 @@ fn ticks_of(margin: Margin) -> u64
 {
     match margin {
         Margin::None => 0,
-        Margin::Ticks(ticks) => {
-            if ticks < 0 {
-                return below_zero(ticks);
-            }
-            ticks as u64
-        }
+        Margin::Ticks(ticks) => ticks.unsigned_abs(),
     }
 }
 

@@ -5,21 +5,21 @@
 //     E count answer running moves waiting margin
 //     S total bound
 //
-// Each function puts a line into a lent buffer from a place on, and gives back the place behind it. These are inner forms: each asks for
-// room for the longest line that it can put.
+// Each function writes a line behind what a text holds already. These are inner forms: each asks for room for the longest line that it
+// can put.
 #![tactic(auto)]
 
-ghost use Rattle.std.specs.Prelude.{◌+◌, ◌≤◌, length};
-ghost use Rattle.laws.specs.Words.{Puts};
+ghost use Rattle.std.specs.Prelude.{◌≤◌};
 ghost use Rattle.rules.specs.Table.{most};
 ghost use Rattle.rules.specs.Text.{margin_text, points_text, plan_text, event_text, sum_text};
+ghost use Rattle.text.specs.Writes.{HasRoom, Writes};
 ghost use Rattle.kernel.specs.Answers.{margin_in};
 ghost use Rattle.levels.specs.Copy.{points_in};
 ghost use Rattle.lines.specs.Shown.{numbers_text, shown_as};
 ghost use Rattle.lines.specs.Room.{margin_room, numbers_room, points_room, plan_room, event_room};
 
 use kernel::{Level, Margin, Plan};
-use text::{put_byte, put_column, put_number, put_signed};
+use text::Text;
 
 // What an E line shows.
 #[derive(Clone, Copy)]
@@ -33,84 +33,79 @@ pub struct Shown {
 }
 
 // A letter and two numbers: the lines X and S.
-fn numbers_line(buffer: &mut [u8], at: usize, letter: u8, first: u64, second: u64) -> usize
-    requires { at + numbers_room ≤ length buffer.old }
-    ensures { Puts buffer.old at (numbers_text letter first second) result buffer.new × (result ≤ at + numbers_room) }
+fn numbers_line(out: &mut Text, letter: u8, first: u64, second: u64)
+    requires { HasRoom out.old numbers_room }
+    ensures { Writes out.old (numbers_text letter first second) numbers_room out.new }
 {
-    let a = put_byte(buffer, at, letter);
-    let b = put_column(buffer, a, first);
-    let c = put_column(buffer, b, second);
-    put_byte(buffer, c, b'\n')
+    out.byte(letter);
+    out.column(first);
+    out.column(second);
+    out.byte(b'\n');
 }
 
 // "`X number task-or-offset`"
-pub fn refusal_line(buffer: &mut [u8], at: usize, number: u64, given: u64) -> usize
-    requires { at + numbers_room ≤ length buffer.old }
-    ensures { Puts buffer.old at (numbers_text 88 number given) result buffer.new × (result ≤ at + numbers_room) }
+pub fn refusal_line(out: &mut Text, number: u64, given: u64)
+    requires { HasRoom out.old numbers_room }
+    ensures { Writes out.old (numbers_text 88 number given) numbers_room out.new }
 {
-    numbers_line(buffer, at, b'X', number, given)
+    numbers_line(out, b'X', number, given);
 }
 
 // "`S` with total moves and the bound of demand 3"
-pub fn sum_line(buffer: &mut [u8], at: usize, total: u64, bound: u64) -> usize
-    requires { at + numbers_room ≤ length buffer.old }
-    ensures { Puts buffer.old at (sum_text total bound) result buffer.new × (result ≤ at + numbers_room) }
+pub fn sum_line(out: &mut Text, total: u64, bound: u64)
+    requires { HasRoom out.old numbers_room }
+    ensures { Writes out.old (sum_text total bound) numbers_room out.new }
 {
-    numbers_line(buffer, at, b'S', total, bound)
+    numbers_line(out, b'S', total, bound);
 }
 
 // "margin or `-`", behind a blank.
-fn put_margin(buffer: &mut [u8], at: usize, margin: Margin) -> usize
-    requires { at + margin_room ≤ length buffer.old }
-    ensures { Puts buffer.old at (margin_text (margin_in margin)) result buffer.new × (result ≤ at + margin_room) }
+fn put_margin(out: &mut Text, margin: Margin)
+    requires { HasRoom out.old margin_room }
+    ensures { Writes out.old (margin_text (margin_in margin)) margin_room out.new }
 {
-    let next = put_byte(buffer, at, b' ');
+    out.byte(b' ');
     match margin {
-        Margin::None => put_byte(buffer, next, b'-'),
-        Margin::Ticks(ticks) => put_signed(buffer, next, ticks),
+        Margin::None => out.byte(b'-'),
+        Margin::Ticks(ticks) => out.signed(ticks),
     }
 }
 
 // "one `E` line an event record"
-pub fn event_line(buffer: &mut [u8], at: usize, line: Shown) -> usize
-    requires { at + event_room ≤ length buffer.old }
-    ensures { Puts buffer.old at (event_text (shown_as line)) result buffer.new × (result ≤ at + event_room) }
+pub fn event_line(out: &mut Text, line: Shown)
+    requires { HasRoom out.old event_room }
+    ensures { Writes out.old (event_text (shown_as line)) event_room out.new }
 {
-    let margin = line.margin;
-    let a = put_byte(buffer, at, b'E');
-    let b = put_column(buffer, a, line.count);
-    let c = put_column(buffer, b, line.answer);
-    let d = put_column(buffer, c, line.running);
-    let e = put_column(buffer, d, line.moves);
-    let f = put_column(buffer, e, line.waiting);
-    let g = put_margin(buffer, f, margin);
-    put_byte(buffer, g, b'\n')
+    out.byte(b'E');
+    out.column(line.count);
+    out.column(line.answer);
+    out.column(line.running);
+    out.column(line.moves);
+    out.column(line.waiting);
+    put_margin(out, line.margin);
+    out.byte(b'\n');
 }
 
 // "` point:level` for each promotion"
-fn put_points(buffer: &mut [u8], at: usize, plan: Plan) -> usize
-    requires { (plan.count ≤ most) × (at + points_room plan.count ≤ length buffer.old) }
-    ensures { Puts buffer.old at (points_text (points_in plan)) result buffer.new × (result ≤ at + points_room plan.count) }
+fn put_points(out: &mut Text, plan: Plan)
+    requires { (plan.count ≤ most) × HasRoom out.old (points_room plan.count) }
+    ensures { Writes out.old (points_text (points_in plan)) (points_room plan.count) out.new }
 {
-    let mut next = at;
-    for i in 0..plan.count {
-        let point = plan.points[i];
-        let level = point.level;
-        let a = put_column(buffer, next, point.at as u64);
-        let b = put_byte(buffer, a, b':');
-        next = put_number(buffer, b, level.0 as u64);
+    for point in &plan.points[..plan.count] {
+        out.column(point.at as u64);
+        out.byte(b':');
+        out.number(point.level.0 as u64);
     }
-    next
 }
 
 // "one `P task first-level` line a task"
-pub fn plan_line(buffer: &mut [u8], at: usize, task: u64, level: Level, plan: Plan) -> usize
-    requires { (plan.count ≤ most) × (at + plan_room plan.count ≤ length buffer.old) }
-    ensures { Puts buffer.old at (plan_text (record { task = task; level = level.0; points = points_in plan })) result buffer.new × (result ≤ at + plan_room plan.count) }
+pub fn plan_line(out: &mut Text, task: u64, level: Level, plan: Plan)
+    requires { (plan.count ≤ most) × HasRoom out.old (plan_room plan.count) }
+    ensures { Writes out.old (plan_text (record { task = task; level = level.0; points = points_in plan })) (plan_room plan.count) out.new }
 {
-    let a = put_byte(buffer, at, b'P');
-    let b = put_column(buffer, a, task);
-    let c = put_column(buffer, b, level.0 as u64);
-    let d = put_points(buffer, c, plan);
-    put_byte(buffer, d, b'\n')
+    out.byte(b'P');
+    out.column(task);
+    out.column(level.0 as u64);
+    put_points(out, plan);
+    out.byte(b'\n');
 }

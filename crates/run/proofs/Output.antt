@@ -1,11 +1,12 @@
 -- The output of a run, from what its parts put. Assumes nothing.
 use mathlib.Core.Path.{◌≡◌, refl, sym, ap, ap₂, subst, ◌∙◌}
 use mathlib.Core.List.{List, ◌++◌}
-use Prim.Native.Nat.{ℕ, ◌≤◌, ◌<◌}
+use Prim.Native.Nat.{ℕ, ◌*◌, ◌≤◌, ◌<◌}
+use native.Mathlib.Omega.{arith}
 use borrow.Author.Tests.{le-leb, lt-leb}
 use lib.ListN.{length}
 use Rattle.laws.specs.Words.{Puts}
-use Rattle.laws.proofs.Buffers.{puts_then, puts_as}
+use Rattle.laws.proofs.Buffers.{puts_length}
 use Rattle.rules.specs.Numbers.{Refusal, longest, Verdict, Passed, Failed, first_of, number_in, given_with}
 use Rattle.rules.specs.Table.{Task, most, verdict_of}
 use Rattle.rules.specs.State.{State}
@@ -20,7 +21,11 @@ use Rattle.rules.proofs.Readable.{stream_numbers}
 use Rattle.rules.proofs.Runner.{runner_refused, runner_table, runner_stream, output_refused, output_passed}
 use Rattle.table.specs.declared.Table.{Table}
 use Rattle.table.specs.Stored.{table_of, verdict_in}
+use Rattle.text.specs.declared.Text.{Text}
+use Rattle.text.specs.Writes.{Writes}
+use Rattle.text.proofs.Writes.{writes_then, writes_as}
 use Rattle.lines.specs.Shown.{numbers_text}
+use Rattle.lines.specs.Room.{numbers_room, plan_room}
 use Rattle.lines.proofs.Showing.{refusal_shown}
 use Rattle.stream.specs.Load.{table_in}
 use Rattle.stream.proofs.Loading.{table_same, table_verdict, table_places}
@@ -29,11 +34,12 @@ use Rattle.kernel.specs.declared.start.Started as Kernel
 use Rattle.kernel.specs.Block.{view_of}
 use Rattle.kernel.specs.Start.{Starts}
 use Rattle.kernel.proofs.Starting.{start_whole}
-use Rattle.run.specs.Run.{room, Runs, StartedBy}
+use Rattle.run.specs.Run.{room, events_room, Runs, StartedBy}
 
--- two numbers that are put as a line, by what they are
-pub numbers_put : {a b c d : ℕ} {text before after : List ℕ} {j : ℕ} → a ≡ c → b ≡ d → numbers_text 88 c d ≡ text → Puts before 0 (numbers_text 88 a b) j after → Puts before 0 text j after
-numbers_put e f g p = puts_as (ap₂ (numbers_text 88) e f ∙ g) p
+-- two numbers that are written as a line, by what they are
+pub numbers_written : {a b c d : ℕ} {text : List ℕ} {before after : Text} → a ≡ c → b ≡ d → numbers_text 88 c d ≡ text
+    → Writes before (numbers_text 88 a b) numbers_room after → Writes before text room after
+numbers_written e f g w = writes_as (ap₂ (numbers_text 88) e f ∙ g) (omega arith) w
 
 -- ---- the buffer
 
@@ -41,8 +47,10 @@ module _ (s before : List ℕ) where
   pub too_little : length before < room → Runs s before 0 before
   too_little h = rw (lt-leb room (length before) h) (refl, refl)
 
-  pub enough : room ≤ length before → {r : ℕ} {after : List ℕ} → Puts before 0 (output_of s) r after → Runs s before r after
-  enough h p = rw (le-leb room (length before) h) p
+  -- where it is what the written text's buffer is in the end
+  pub enough : room ≤ length before → {r : ℕ} {after written : List ℕ} → after ≡ written → Puts before 0 (output_of s) r written → r ≤ room
+      → Runs s before r after × (r ≤ length after)
+  enough h e p near = rw e (rw (le-leb room (length before) h) p, omega (arith, puts_length p))
 
 module _ (s : List ℕ) where
   -- ---- X
@@ -90,13 +98,13 @@ module _ (s : List ℕ) where
     shown_output = ap₂ shown table_started w.view ∙ sym (output_passed s w.passed)
 
     -- the three parts, one behind another, are the output
-    pub report_put : {before first second after : List ℕ} {i j k moves bound : ℕ}
-        → Puts before 0 (plans_text (plan_lines (table_of b.tasks.table) (length (table_of b.tasks.table)) 1)) i first
-        → Puts first i (events_text (event_lines (view_of b) 1 (calls_read s))) j second
-        → Puts second j (sum_text moves bound) k after
+    pub report_written : {before first second after : Text} {moves bound : ℕ}
+        → Writes before (plans_text (plan_lines (table_of b.tasks.table) (length (table_of b.tasks.table)) 1)) (most * plan_room most) first
+        → Writes first (events_text (event_lines (view_of b) 1 (calls_read s))) events_room second
+        → Writes second (sum_text moves bound) numbers_room after
         → moves ≡ total_of (events_of (view_of b) (calls_read s)) → bound ≡ bound_of (table_of b.tasks.table) (events_of (view_of b) (calls_read s))
-        → Puts before 0 (output_of s) k after
-    report_put {moves = moves} {bound = bound} p q l m n =
-        puts_as
+        → Writes before (output_of s) room after
+    report_written {moves = moves} {bound = bound} p q l m n =
+        writes_as
         (ap₂ (λ (x y : ℕ). plans_text (plan_lines (table_of b.tasks.table) (length (table_of b.tasks.table)) 1) ++ events_text (event_lines (view_of b) 1 (calls_read s)) ++ sum_text x y) m n ∙ shown_output)
-        (puts_then (puts_then p q) l)
+        (omega arith) (writes_then (writes_then p q) l)

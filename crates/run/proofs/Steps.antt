@@ -64,16 +64,16 @@ module _ (a : Progress) (w : Begins a) (c : Call) (r : Called) (g : Gives a.bloc
   pub line_few : line.moves ≤ most
   line_few = omega (arith, line_moves, moves_few a.block w.whole c)
 
-  pub steps : {more place : ℕ} {before after : List ℕ} → more ≡ bound_by (table_of a.block.tasks.table) c (answer_in r.answer) → more ≤ 256
-      → Puts before a.place (event_text (shown_as line)) place after → place ≤ a.place + event_room
+  pub steps : {more place : ℕ} {before written after : List ℕ} → more ≡ bound_by (table_of a.block.tasks.table) c (answer_in r.answer) → more ≤ 256
+      → Puts before a.place (event_text (shown_as line)) place written → place ≤ a.place + event_room → after ≡ written
       → Steps a c before (record { block = r.block; place = place; count = a.count + 1; moves = a.moves + line.moves; bound = a.bound + more }) after
-  steps s small p near =
+  steps s small p near e =
       let d = does a.block w.whole c r g in
       record {
         whole = d.whole;
         view = d.view;
         same = d.same;
-        text = puts_as (ap event_text (shows ∙ ap₂ line_of (add-one a.count) (step_same a.block w.whole c r g))) p;
+        text = rw e (puts_as (ap event_text (shows ∙ ap₂ line_of (add-one a.count) (step_same a.block w.whole c r g))) p);
         near = near;
         count = add-one a.count;
         moves = ap (λ (m : ℕ). a.moves + m) line_moves;

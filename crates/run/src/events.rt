@@ -19,6 +19,7 @@ use kernel::{Answer, Block, Called, Margin, TaskNo};
 use levels::first_level;
 use lines::{Shown, event_line};
 use records::{Call, Reader, Record};
+use text::Text;
 
 // How far a run has come: the block, the place behind the last line, how many events there were, the total of moves, and the bound of
 // demand 3.
@@ -144,10 +145,14 @@ fn event(progress: Progress, event: Call, out: &mut [u8]) -> Progress
     let line = shown(count, called);
     let moves = progress.moves + line.moves;
     let bound = progress.bound + bound_by(tasks, event, answer);
-    let place = event_line(out, progress.place, line);
+    let mut text = Text {
+        buffer: out,
+        at: progress.place,
+    };
+    event_line(&mut text, line);
     Progress {
         block: after,
-        place,
+        place: text.at,
         count,
         moves,
         bound,

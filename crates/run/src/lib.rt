@@ -1,21 +1,22 @@
 // From the bytes of a stream to the whole text that the runner prints ("Records and the runner").
 //
-//     run                14, then 12 and 13 at each record: X
-//       report           the table, and tests 1 to 4: X
-//         lines          the block starts, last reading 0
-//           plan_lines       P, a line a task                  plans
-//           events           E, a line an event record         events
-//           sum_line         S
+//     run                the buffer's length
+//       put_output       14, then 12 and 13 at each record: X
+//         report         the table, and tests 1 to 4: X
+//           lines        the block starts, last reading 0
+//             plan_lines     P, a line a task                  plans
+//             events         E, a line an event record         events
+//             sum_line       S
 //
 // Time: the stream is read three times, for its tests, its table and its events; an event takes what its call takes, with the
 // whole-test, and what counting the waiting jobs takes.
 #![tactic(auto)]
 
 ghost use Rattle.std.specs.Prelude.{◌≡◌, suc, ◌≤◌, length, replicate};
-ghost use Rattle.laws.specs.Words.{Puts};
 ghost use Rattle.rules.specs.Numbers.{Passed, longest};
 ghost use Rattle.rules.specs.Records.{stream_of};
 ghost use Rattle.rules.specs.Runner.{output_of};
+ghost use Rattle.text.specs.Writes.{HasRoom, Writes};
 ghost use Rattle.run.specs.Run.{room, Runs, StartedBy};
 
 use events::events;
@@ -25,6 +26,7 @@ use lines::{refusal_line, sum_line};
 use plans::plan_lines;
 use refusals::Refused;
 use stream::{LONGEST, stream_test, table_in};
+use text::Text;
 
 mod plans; // P lines
 mod events; // E lines
@@ -39,36 +41,47 @@ pub fn run(stream: &[u8], out: &mut [u8]) -> usize
     if out.len() < ROOM {
         return 0;
     }
+    let mut text = Text { buffer: out, at: 0 };
+    put_output(stream, &mut text);
+    text.at
+}
+
+// The output, where there is room for it: the stream is tested.
+fn put_output(stream: &[u8], out: &mut Text)
+    requires { HasRoom out.old room }
+    ensures { Writes out.old (output_of stream.now) room out.new }
+{
     match stream_test(stream) {
         Ok(()) => report(stream, out),
-        Err(refusal) => refusal_line(out, 0, refusal.number() as u64, refusal.given() as u64),
+        Err(refusal) => refusal_line(out, refusal.number() as u64, refusal.given() as u64),
     }
 }
 
 // The output for a readable stream: its table is tested, and the block starts.
-fn report(stream: &[u8], out: &mut [u8]) -> usize
-    requires { (stream_of stream.now ≡ Passed) × (room ≤ length out.old) }
-    ensures { Puts out.old 0 (output_of stream.now) result out.new × (result ≤ room) }
+fn report(stream: &[u8], out: &mut Text)
+    requires { (stream_of stream.now ≡ Passed) × HasRoom out.old room }
+    ensures { Writes out.old (output_of stream.now) room out.new }
 {
     let table = table_in(stream);
     let started = start(table, 0);
     let verdict = started.verdict;
     let block = started.block;
     if let Verdict::Sound = verdict {
-        return lines(stream, block, out);
+        lines(stream, block, out);
+    } else {
+        refusal_line(out, verdict.number() as u64, verdict.task() as u64);
     }
-    refusal_line(out, 0, verdict.number() as u64, verdict.task() as u64)
 }
 
 // The lines of a readable stream whose table is sound; the block is as it started.
-fn lines(stream: &[u8], block: Block, out: &mut [u8]) -> usize
-    requires { StartedBy stream.now block × (room ≤ length out.old) }
-    ensures { Puts out.old 0 (output_of stream.now) result out.new × (result ≤ room) }
+fn lines(stream: &[u8], block: Block, out: &mut Text)
+    requires { StartedBy stream.now block × HasRoom out.old room }
+    ensures { Writes out.old (output_of stream.now) room out.new }
 {
-    let tasks = block.tasks;
-    let place = plan_lines(tasks, out);
-    let ended = events(stream, block, out, place);
-    sum_line(out, ended.place, ended.moves, ended.bound)
+    plan_lines(block.tasks, out);
+    let ended = events(stream, block, out.buffer, out.at);
+    out.at = ended.place;
+    sum_line(out, ended.moves, ended.bound);
 }
 
 // Room for a stream and one byte more, by which a longer one is seen.

@@ -1,8 +1,7 @@
 use mathlib.Core.Path.{ap}
-use native.Mathlib.Omega.{arith}
 use Rattle.table.specs.Stored.{verdict_in}
 use Rattle.table.proofs.Tests.{not_sound}
-use Rattle.run.proofs.Output.{table_sound, table_refused, numbers_put}
+use Rattle.run.proofs.Output.{table_sound, table_refused, numbers_written}
 use Rattle.run.proofs.report.Goals as goal
 
 pub lines-requires : goal.lines-requires
@@ -11,10 +10,8 @@ lines-requires c = let s = c in (
   s.requires.1,
 )
 
-pub returns : goal.returns
-returns c = let s = c in let begun = c.start-started in let put = c.refusal_line.ensures in
-    let refusal = not_sound begun.result.verdict c.in_default.not-Sound in (
-      numbers_put c.number.ensures c.task.ensures
-          (table_refused s.args.stream.now s.requires.0 _ c.table_in-table.ensures _ begun.ensures refusal.0 refusal.1) put.0,
-      omega (arith, put.1),
-    )
+pub returns-in_default : goal.returns-in_default
+returns-in_default c = let s = c in let begun = c.start-started in
+    let refusal = not_sound begun.result.verdict c.in_default.not-Sound in
+    numbers_written c.number.ensures c.task.ensures
+    (table_refused s.args.stream.now s.requires.0 _ c.table_in-table.ensures _ begun.ensures refusal.0 refusal.1) c.refusal_line.ensures

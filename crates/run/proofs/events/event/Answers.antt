@@ -28,12 +28,11 @@ pub overflow_add-bound : goal.overflow_add-bound
 overflow_add-bound c = let s = c in
     omega (arith, s.requires.0.count, s.requires.0.bound, c.bound_by.ensures.1)
 
-pub event_line-place-requires : goal.event_line-place-requires
-event_line-place-requires c = let s = c in
+pub event_line-requires : goal.event_line-requires
+event_line-requires c = let s = c in
     omega (arith, s.requires.1)
 
 pub returns : goal.returns
-returns c = let p = c in let h = p in let d = h in
-    let s = d in
-    steps s.args.progress s.requires.0 (call_in s.args.event) d.call-called.result d.call-called.ensures h.shown-line.result h.shown-line.ensures
-    h.bound_by.ensures.0 h.bound_by.ensures.1 p.event_line-place.ensures.0 p.event_line-place.ensures.1
+returns c =
+    steps c.args.progress c.requires.0 (call_in c.args.event) c.call-called.result c.call-called.ensures c.shown-line.result c.shown-line.ensures
+    c.bound_by.ensures.0 c.bound_by.ensures.1 c.event_line.ensures.put c.event_line.ensures.near (search rules)

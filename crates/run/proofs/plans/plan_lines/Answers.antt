@@ -8,7 +8,7 @@ use Rattle.laws.proofs.Bools.{le_both}
 use Rattle.rules.specs.Table.{most}
 use Rattle.table.specs.Stored.{table_of}
 use Rattle.table.proofs.Tests.{table_length, few_passed}
-use Rattle.run.proofs.Planning.{planning_first, planning_next, planning_end, planning_room, planning_most}
+use Rattle.run.proofs.Planning.{planning_first, planning_next, planning_end, planning_room}
 use Rattle.run.proofs.plans.plan_lines.Goals as goal
 use Rattle.run.proofs.plans.plan_lines.Goals.{Start}
 
@@ -30,20 +30,20 @@ loop-k-init c = (planning_first _ _, search rules)
 pub overflow_cast-k : goal.overflow_cast-k
 overflow_cast-k c = let s = c in omega (arith, few (goal.at.overflow_cast-k c).Start, c.loop-k.invariant.1, c.loop-k-test.true)
 
-pub task_line-at-requires : goal.task_line-at-requires
-task_line-at-requires c = let s = c in let i = c.loop-k.invariant in
-    let in_table : c.loop-k.k ≤ length (table_of s.args.tasks.table) = omega (arith, counted (goal.at.task_line-at-requires c).Start, i.1, c.loop-k-test.true) in (
+pub task_line-requires : goal.task_line-requires
+task_line-requires c = let s = c in let i = c.loop-k.invariant in let start = (goal.at.task_line-requires c).Start in
+    let in_table : c.loop-k.k ≤ length (table_of s.args.tasks.table) = omega (arith, counted start, i.1, c.loop-k-test.true) in (
       record { laid = s.requires.0; task = le_both (i.0.low, in_table) },
-      omega (arith, planning_room _ _ i.0 (omega (arith, counted (goal.at.task_line-at-requires c).Start, few (goal.at.task_line-at-requires c).Start)) in_table, i.0.same, s.requires.1),
+      planning_room _ _ i.0 (omega (arith, counted start, few start)) in_table s.requires.1,
     )
 
 pub loop-k-smaller : goal.loop-k-smaller
 loop-k-smaller c = omega (arith, c.loop-k-test.true)
 
 pub loop-k-preserved : goal.loop-k-preserved
-loop-k-preserved c = let s = c in let i = c.loop-k.invariant in let put = c.task_line-at.ensures in
-    (planning_next _ _ i.0 (omega (arith, counted (goal.at.loop-k-preserved c).Start, i.1, c.loop-k-test.true)) put.0 put.1, i.1)
+loop-k-preserved c = let i = c.loop-k.invariant in
+    (planning_next _ _ i.0 (omega (arith, counted (goal.at.loop-k-preserved c).Start, i.1, c.loop-k-test.true)) c.task_line.ensures, i.1)
 
 pub returns : goal.returns
-returns c = let s = c in let i = c.loop-k.invariant in
-    (planning_end _ _ i.0 (omega (arith, counted (goal.at.returns c).Start, i.1, c.loop-k-test.false)), planning_most _ _ i.0 (omega (arith, counted (goal.at.returns c).Start, few (goal.at.returns c).Start)))
+returns c = let i = c.loop-k.invariant in let start = (goal.at.returns c).Start in
+    planning_end _ _ i.0 (omega (arith, counted start, few start)) (omega (arith, counted start, i.1, c.loop-k-test.false))

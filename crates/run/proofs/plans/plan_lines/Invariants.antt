@@ -5,7 +5,7 @@ use Rattle.run.proofs.Planning.{Planning}
 use Rattle.run.proofs.plans.plan_lines.Given as goal
 
 abbrev pub invariant-loop-k : goal.invariant-loop-k
-invariant-loop-k l = Planning (table_of l.tasks.table) l.initial.out l.k l.out l.at × (l.k-end ≡ l.tasks.table.count + 1)
+invariant-loop-k l = Planning (table_of l.tasks.table) l.initial.out l.k l.out × (l.k-end ≡ l.tasks.table.count + 1)
 
 abbrev pub decreases-loop-k : goal.decreases-loop-k
 decreases-loop-k l = l.k-end - l.k

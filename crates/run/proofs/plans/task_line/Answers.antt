@@ -5,12 +5,12 @@ use native.Mathlib.Omega.{arith}
 use borrow.Author.Rules.{rules}
 use lib.ListN.{length}
 use Rattle.laws.proofs.Arrays.{long_map}
-use Rattle.laws.proofs.Buffers.{puts_as}
 use Rattle.rules.specs.Table.{most}
 use Rattle.rules.specs.Levels.{Point}
 use Rattle.rules.specs.Text.{plan_text}
 use Rattle.table.specs.Stored.{table_of}
 use Rattle.table.proofs.Tests.{table_length}
+use Rattle.text.proofs.Writes.{writes_as}
 use Rattle.run.proofs.Laid.{laid_place, laid_first, laid_copied, laid_points, laid_few}
 use Rattle.run.proofs.plans.task_line.Goals as goal
 use Rattle.run.proofs.plans.task_line.Goals.{Start}
@@ -31,15 +31,15 @@ pub plan_of-plan-requires : goal.plan_of-plan-requires
 plan_of-plan-requires c = laid_copied c.args.tasks c.args.task.0 c.requires.0 (long (goal.at.plan_of-plan-requires c).Start)
 
 pub plan_line-requires : goal.plan_line-requires
-plan_line-requires c = let a = c.args in
-    let few = laid_few a.tasks a.task.0 c.requires.0 (long (goal.at.plan_line-requires c).Start) _ (c.plan_of-plan.ensures (table_of a.tasks.table) c.requires.0.laid.copy (table_length a.tasks.table (long (goal.at.plan_line-requires c).Start))) in
+plan_line-requires c = let a = c.args in let size = long (goal.at.plan_line-requires c).Start in
+    let plan = c.plan_of-plan.ensures (table_of a.tasks.table) c.requires.0.laid.copy (table_length a.tasks.table size) in
+    let few = laid_few a.tasks a.task.0 c.requires.0 size _ plan in
     (few, omega (arith, few, c.requires.1))
 
 pub returns : goal.returns
-returns c = let a = c.args in
-    let plan = c.plan_of-plan.ensures (table_of a.tasks.table) c.requires.0.laid.copy (table_length a.tasks.table (long (goal.at.returns c).Start)) in
-    let level = c.first_level-level.ensures (table_of a.tasks.table) c.requires.0.laid.copy (table_length a.tasks.table (long (goal.at.returns c).Start)) ∙ laid_first a.tasks a.task.0 c.requires.0 (long (goal.at.returns c).Start) in
-    let put = c.plan_line.ensures in (
-      puts_as (ap₂ (λ (l : ℕ) (ps : List Point). plan_text (record { task = a.task.0; level = l; points = ps })) level (laid_points a.tasks a.task.0 c.requires.0 (long (goal.at.returns c).Start) _ plan)) put.0,
-      omega (arith, put.1, laid_few a.tasks a.task.0 c.requires.0 (long (goal.at.returns c).Start) _ plan),
-    )
+returns c = let a = c.args in let size = long (goal.at.returns c).Start in
+    let plan = c.plan_of-plan.ensures (table_of a.tasks.table) c.requires.0.laid.copy (table_length a.tasks.table size) in
+    let level = c.first_level-level.ensures (table_of a.tasks.table) c.requires.0.laid.copy (table_length a.tasks.table size) ∙ laid_first a.tasks a.task.0 c.requires.0 size in
+    writes_as
+    (ap₂ (λ (l : ℕ) (ps : List Point). plan_text (record { task = a.task.0; level = l; points = ps })) level (laid_points a.tasks a.task.0 c.requires.0 size _ plan))
+    (omega (arith, laid_few a.tasks a.task.0 c.requires.0 size _ plan)) c.plan_line.ensures

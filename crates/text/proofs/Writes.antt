@@ -1,0 +1,21 @@
+-- What is written piece after piece. Assumes nothing.
+use mathlib.Core.Path.{◌≡◌, refl, ◌∙◌}
+use mathlib.Core.List.{List, [], ◌++◌}
+use Prim.Native.Nat.{ℕ, ◌+◌, ◌≤◌}
+use native.Mathlib.Omega.{arith}
+use Rattle.laws.proofs.Buffers.{puts_none, puts_then, puts_as}
+use Rattle.text.specs.declared.Text.{Text}
+use Rattle.text.specs.Writes.{Writes}
+
+pub writes_none : (t : Text) → Writes t [] 0 t
+writes_none t = record { same = refl; long = refl; put = puts_none t.buffer.now t.at; near = omega arith }
+
+module _ {a b : Text} {xs : List ℕ} {m : ℕ} (w : Writes a xs m b) where
+  -- one piece behind another is the two joined
+  pub writes_then : {c : Text} {ys : List ℕ} {n : ℕ} → Writes b ys n c → Writes a (xs ++ ys) (m + n) c
+  writes_then v =
+      record { same = v.same ∙ w.same; long = v.long ∙ w.long; put = puts_then w.put v.put; near = omega (arith, w.near, v.near) }
+
+-- the same, said in another way
+pub writes_as : {a b : Text} {xs ys : List ℕ} {m n : ℕ} → xs ≡ ys → m ≤ n → Writes a xs m b → Writes a ys n b
+writes_as e h w = record { same = w.same; long = w.long; put = puts_as e w.put; near = omega (arith, w.near) }
