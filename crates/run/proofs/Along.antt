@@ -4,9 +4,8 @@ use mathlib.Core.List.{List, [], ◌∷◌, ◌++◌, append_assoc, append-nil}
 use Prim.Native.Nat.{ℕ, suc, ◌+◌}
 use native.Mathlib.Omega.{arith}
 use lib.ListN.{length}
-use Rattle.laws.specs.Words.{sum, Puts}
-use Rattle.laws.proofs.Buffers.{puts_none, puts_then, puts_as}
-use Rattle.rules.specs.Numbers.{number_of}
+use Rattle.laws.specs.Words.{sum}
+use Rattle.rules.specs.Numbers.{longest, number_of}
 use Rattle.rules.specs.Table.{Task}
 use Rattle.rules.specs.State.{State, waiting}
 use Rattle.rules.specs.Calls.{Call, moves_in, step_of}
@@ -18,7 +17,10 @@ use Rattle.kernel.specs.declared.Answer.TheVariants.{Accepted, Refused}
 use Rattle.kernel.specs.declared.Called.{Called}
 use Rattle.kernel.specs.declared.Refusal.{Refusal}
 use Rattle.kernel.specs.Answers.{refusal_in}
-use Rattle.kernel.specs.Block.{view_of}
+use Rattle.kernel.specs.Block.{view_of, Whole}
+use Rattle.text.specs.declared.Text.{Text}
+use Rattle.text.specs.Writes.{HasRoom, Writes}
+use Rattle.text.proofs.Writes.{writes_none, writes_then, writes_as}
 use Rattle.lines.specs.Shown.{shown_as}
 use Rattle.run.specs.Run.{step_in}
 use Rattle.std.specs.Prelude.{None, Option}
@@ -52,29 +54,29 @@ module _ (s : State) (n : ℕ) (c : Call) (cs : List Call) where
 
 -- with these calls left, of a state after n events, where so much is written and these are the totals, the whole comes to what the first
 -- state and all calls come to
-pub record Left (table : List Task) (before : List ℕ) (place : ℕ) (s : State) (all : List Call) (now : State) (n : ℕ) (rest : List Call) (out : List ℕ) (at moves bound : ℕ) : Type 0 where
+pub record Left (table : List Task) (before : Text) (s : State) (all : List Call) (now : State) (n : ℕ) (rest : List Call) (out : Text) (moves bound : ℕ) : Type 0 where
   pub text : List ℕ
-  pub put : Puts before place text at out
+  pub written : Writes before text (event_room * n) out
   pub lines : text ++ events_text (event_lines now (suc n) rest) ≡ events_text (event_lines s 1 all)
   pub total : moves + total_of (events_of now rest) ≡ total_of (events_of s all)
   pub bounds : bound + bound_of table (events_of now rest) ≡ bound_of table (events_of s all)
 
-module _ (table : List Task) (before : List ℕ) (place : ℕ) (s : State) (all : List Call) where
-  pub left_all : Left table before place s all s 0 all before place 0 0
-  left_all = record { text = []; put = puts_none before place; lines = refl; total = omega arith; bounds = omega arith }
+module _ (table : List Task) (before : Text) (s : State) (all : List Call) where
+  pub left_all : Left table before s all s 0 all before 0 0
+  left_all = record { text = []; written = writes_none before; lines = refl; total = omega arith; bounds = omega arith }
 
-  module _ (now : State) (n : ℕ) {rest : List Call} {out : List ℕ} {at moves bound : ℕ} (l : Left table before place s all now n rest out at moves bound) where
+  module _ (now : State) (n : ℕ) {rest : List Call} {out : Text} {moves bound : ℕ} (l : Left table before s all now n rest out moves bound) where
     -- the rest said in another way
-    pub left_as : {other : List Call} → rest ≡ other → Left table before place s all now n other out at moves bound
+    pub left_as : {other : List Call} → rest ≡ other → Left table before s all now n other out moves bound
     left_as e = rw (← e) l
 
-    pub left_next : (c : Call) (cs : List Call) → rest ≡ c ∷ cs → {next : State} → next ≡ (step_of now c).state → {out' : List ℕ} {at' moves' bound' n' : ℕ}
-        → n' ≡ suc n → Puts out at (event_text (line_of (suc n) (step_of now c))) at' out' → moves' ≡ moves + moves_in (step_of now c).answer
-        → bound' ≡ bound + bound_by table c (step_of now c).answer → Left table before place s all next n' cs out' at' moves' bound'
-    left_next c cs e v {out'} {at'} {moves'} {bound'} en p m b =
+    pub left_next : (c : Call) (cs : List Call) → rest ≡ c ∷ cs → {next : State} → next ≡ (step_of now c).state → {out' : Text} {moves' bound' n' : ℕ}
+        → n' ≡ suc n → Writes out (event_text (line_of (suc n) (step_of now c))) event_room out' → moves' ≡ moves + moves_in (step_of now c).answer
+        → bound' ≡ bound + bound_by table c (step_of now c).answer → Left table before s all next n' cs out' moves' bound'
+    left_next c cs e v {out'} {moves'} {bound'} en w m b =
         rw (v, en) (record {
           text = l.text ++ event_text (line_of (suc n) (step_of now c));
-          put = puts_then l.put p;
+          written = writes_as refl (omega arith) (writes_then l.written w);
           lines =
               append_assoc l.text (event_text (line_of (suc n) (step_of now c))) _ ∙ ap (λ (t : List ℕ). l.text ++ t) (sym (text_more now (suc n) c cs))
               ∙ ap (λ (q : List Call). l.text ++ events_text (event_lines now (suc n) q)) (sym e) ∙ l.lines;
@@ -83,9 +85,9 @@ module _ (table : List Task) (before : List ℕ) (place : ℕ) (s : State) (all 
         })
 
     module _ (none : rest ≡ []) where
-      pub ends_text : Puts before place (events_text (event_lines s 1 all)) at out
+      pub ends_text : Writes before (events_text (event_lines s 1 all)) (event_room * n) out
       unfolding events_text event_lines
-      ends_text = puts_as (sym (append-nil l.text) ∙ ap (λ (q : List Call). l.text ++ events_text (event_lines now (suc n) q)) (sym none) ∙ l.lines) l.put
+      ends_text = writes_as (sym (append-nil l.text) ∙ ap (λ (q : List Call). l.text ++ events_text (event_lines now (suc n) q)) (sym none) ∙ l.lines) (omega arith) l.written
 
       pub ends_total : moves ≡ total_of (events_of s all)
       unfolding events_of sum

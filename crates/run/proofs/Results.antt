@@ -20,6 +20,8 @@ use Rattle.kernel.specs.Answers.{margin_in}
 use Rattle.kernel.specs.Block.{SameTasks, Sizes}
 use Rattle.kernel.proofs.Results.{answer_one}
 use Rattle.kernel.proofs.Views.{blocks_one}
+use Rattle.text.specs.declared.Text.{Text}
+use Rattle.text.proofs.Writes.{SameText, writes_one}
 use Rattle.lines.specs.declared.Shown.{Shown}
 use Rattle.lines.specs.Shown.{shown_as}
 use Rattle.run.specs.declared.events.Progress.{Progress}
@@ -56,17 +58,14 @@ shown_one n called r x p q = columns_one r x (q ∙ sym p)
 
 -- ---- one event
 
-module _ (a : Progress) (c : Calls.Call) (before : List ℕ) (r x : Progress) (after last : List ℕ) (long : Sizes r.block) (wide : Sizes x.block) where
-  -- the block by its view and its table, the place behind the line by its text, and the numbers
-  pub steps_one : Steps a c before r after → Steps a c before x last → (x ≡ r) × (last ≡ after)
+module _ (a : Progress) (c : Calls.Call) (before : Text) (r x : Progress) (after last : Text) (long : Sizes r.block) (wide : Sizes x.block) where
+  -- the block by its view and its table, what is written by its text, and the numbers
+  pub steps_one : Steps a c before r after → Steps a c before x last → (x ≡ r) × SameText after last
   steps_one p q = (
-    λ i. record { block = block i; place = put.1 i; count = (q.count ∙ sym p.count) i; moves = (q.moves ∙ sym p.moves) i; bound = (q.bound ∙ sym p.bound) i },
-    put.0,
+    λ i. record { block = block i; count = (q.count ∙ sym p.count) i; moves = (q.moves ∙ sym p.moves) i; bound = (q.bound ∙ sym p.bound) i },
+    writes_one p.text q.text,
   )
     where
-      put : (last ≡ after) × (x.place ≡ r.place)
-      put = puts_one p.text q.text
-
       both : SameTasks r.block x.block
       both =
           record {
@@ -81,8 +80,6 @@ module _ (a : Progress) (c : Calls.Call) (before : List ℕ) (r x : Progress) (a
 
 -- ---- all events
 
-pub ends_one : (b : Block) (calls : List Calls.Call) (before : List ℕ) (place : ℕ) (r x : Totals) (after last : List ℕ)
-    → Ends b calls before place r after → Ends b calls before place x last → (x ≡ r) × (last ≡ after)
-ends_one b calls before place r x after last p q =
-    let put = puts_one p.text q.text in
-    (λ i. record { place = put.1 i; moves = (q.moves ∙ sym p.moves) i; bound = (q.bound ∙ sym p.bound) i }, put.0)
+pub ends_one : (b : Block) (calls : List Calls.Call) (before : Text) (r x : Totals) (after last : Text)
+    → Ends b calls before r after → Ends b calls before x last → (x ≡ r) × SameText after last
+ends_one b calls before r x after last p q = (λ i. record { moves = (q.moves ∙ sym p.moves) i; bound = (q.bound ∙ sym p.bound) i }, writes_one p.text q.text)

@@ -1,12 +1,9 @@
 -- One event: its call on a whole block is the rules' step, and all that it does. Assumes nothing.
 use mathlib.Core.Path.{◌≡◌, sym, ap, ap₂, ◌∙◌}
-use mathlib.Core.List.{List}
 use Prim.Native.Nat.{ℕ, ◌+◌, ◌≤◌}
 use native.Mathlib.Numerals.{add-one}
 use native.Mathlib.Omega.{arith}
 use lib.ListN.{length}
-use Rattle.laws.specs.Words.{Puts}
-use Rattle.laws.proofs.Buffers.{puts_as}
 use Rattle.rules.specs.Table.{most}
 use Rattle.rules.specs.Histories.{bound_by}
 use Rattle.rules.specs.State.{State}
@@ -23,6 +20,9 @@ use Rattle.kernel.specs.Answers.{answer_in}
 use Rattle.kernel.specs.Calls.{Does, Gives}
 use Rattle.kernel.proofs.Fifteen.{of_whole}
 use Rattle.kernel.proofs.Asking.{lists_viewed, copy_viewed}
+use Rattle.text.specs.declared.Text.{Text}
+use Rattle.text.specs.Writes.{Writes}
+use Rattle.text.proofs.Writes.{writes_as}
 use Rattle.lines.specs.declared.Shown.{Shown}
 use Rattle.lines.specs.Shown.{shown_as}
 use Rattle.lines.specs.Room.{event_room}
@@ -64,17 +64,16 @@ module _ (a : Progress) (w : Begins a) (c : Call) (r : Called) (g : Gives a.bloc
   pub line_few : line.moves ≤ most
   line_few = omega (arith, line_moves, moves_few a.block w.whole c)
 
-  pub steps : {more place : ℕ} {before written after : List ℕ} → more ≡ bound_by (table_of a.block.tasks.table) c (answer_in r.answer) → more ≤ 256
-      → Puts before a.place (event_text (shown_as line)) place written → place ≤ a.place + event_room → after ≡ written
-      → Steps a c before (record { block = r.block; place = place; count = a.count + 1; moves = a.moves + line.moves; bound = a.bound + more }) after
-  steps s small p near e =
+  pub steps : {more : ℕ} {before after : Text} → more ≡ bound_by (table_of a.block.tasks.table) c (answer_in r.answer) → more ≤ 256
+      → Writes before (event_text (shown_as line)) event_room after
+      → Steps a c before (record { block = r.block; count = a.count + 1; moves = a.moves + line.moves; bound = a.bound + more }) after
+  steps s small put =
       let d = does a.block w.whole c r g in
       record {
         whole = d.whole;
         view = d.view;
         same = d.same;
-        text = rw e (puts_as (ap event_text (shows ∙ ap₂ line_of (add-one a.count) (step_same a.block w.whole c r g))) p);
-        near = near;
+        text = writes_as (ap event_text (shows ∙ ap₂ line_of (add-one a.count) (step_same a.block w.whole c r g))) (omega arith) put;
         count = add-one a.count;
         moves = ap (λ (m : ℕ). a.moves + m) line_moves;
         bound = ap (λ (m : ℕ). a.bound + m) (s ∙ ap (bound_by (table_of a.block.tasks.table) c) d.answer);

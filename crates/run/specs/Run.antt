@@ -17,6 +17,8 @@ use Rattle.kernel.specs.declared.Block.{Block}
 use Rattle.kernel.specs.declared.Called.{Called}
 use Rattle.kernel.specs.Block.{view_of, Whole, SameTasks}
 use Rattle.kernel.specs.Answers.{answer_in}
+use Rattle.text.specs.declared.Text.{Text}
+use Rattle.text.specs.Writes.{Writes}
 use Rattle.lines.specs.Room.{event_room}
 use Rattle.run.specs.declared.events.Progress.{Progress}
 use Rattle.run.specs.declared.events.Totals.{Totals}
@@ -75,15 +77,14 @@ pub record Begins (a : Progress) : Type 0 where
   pub bound : a.bound ≤ a.count * 2 ^ 32
 
 abbrev pub totals_of : Progress → Totals
-totals_of a = record { place = a.place; moves = a.moves; bound = a.bound }
+totals_of a = record { moves = a.moves; bound = a.bound }
 
 -- what one event does, its call being c
-pub record Steps (a : Progress) (c : Call) (before : List ℕ) (r : Progress) (after : List ℕ) : Type 0 where
+pub record Steps (a : Progress) (c : Call) (before : Text) (r : Progress) (after : Text) : Type 0 where
   pub whole : Whole r.block
   pub view : view_of r.block ≡ (step_of (view_of a.block) c).state
   pub same : SameTasks a.block r.block
-  pub text : Puts before a.place (event_text (line_of (suc a.count) (step_of (view_of a.block) c))) r.place after
-  pub near : r.place ≤ a.place + event_room
+  pub text : Writes before (event_text (line_of (suc a.count) (step_of (view_of a.block) c))) event_room after
   pub count : r.count ≡ suc a.count
   pub moves : r.moves ≡ a.moves + moves_in (step_of (view_of a.block) c).answer
   pub bound : r.bound ≡ a.bound + bound_by (table_of a.block.tasks.table) c (step_of (view_of a.block) c).answer
@@ -91,8 +92,7 @@ pub record Steps (a : Progress) (c : Call) (before : List ℕ) (r : Progress) (a
   pub small_bound : r.bound ≤ a.bound + 2 ^ 32
 
 -- what all events do from the block b on, their calls being these
-pub record Ends (b : Block) (calls : List Call) (before : List ℕ) (place : ℕ) (r : Totals) (after : List ℕ) : Type 0 where
-  pub text : Puts before place (events_text (event_lines (view_of b) 1 calls)) r.place after
-  pub near : r.place ≤ place + events_room
+pub record Ends (b : Block) (calls : List Call) (before : Text) (r : Totals) (after : Text) : Type 0 where
+  pub text : Writes before (events_text (event_lines (view_of b) 1 calls)) events_room after
   pub moves : r.moves ≡ total_of (events_of (view_of b) calls)
   pub bound : r.bound ≡ bound_of (table_of b.tasks.table) (events_of (view_of b) calls)

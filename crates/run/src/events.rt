@@ -1,5 +1,5 @@
 // "one `E` line an event record"; and the totals of the S line.
-ghost use Rattle.std.specs.Prelude.{◌≡◌, ◌+◌, ◌-◌, ◌≤◌, length};
+ghost use Rattle.std.specs.Prelude.{◌≡◌, ◌-◌, ◌≤◌, length};
 ghost use Rattle.rules.specs.Numbers.{longest};
 ghost use Rattle.rules.specs.Lines as Rules;
 ghost use Rattle.rules.specs.Levels.{first_level};
@@ -11,6 +11,7 @@ ghost use Rattle.records.specs.Read.{call_in};
 ghost use Rattle.kernel.specs.Block.{Whole};
 ghost use Rattle.kernel.specs.Answers.{answer_in};
 ghost use Rattle.kernel.specs.Calls.{Gives};
+ghost use Rattle.text.specs.Writes.{HasRoom};
 ghost use Rattle.lines.specs.Room.{event_room};
 ghost use Rattle.run.specs.Run.{totals_of, step_in, events_room, LaidTask, Boundable, Steps, Begins, Ends};
 
@@ -21,21 +22,18 @@ use lines::{Shown, event_line};
 use records::{Call, Reader, Record};
 use text::Text;
 
-// How far a run has come: the block, the place behind the last line, how many events there were, the total of moves, and the bound of
-// demand 3.
+// How far a run has come: the block, how many events there were, the total of moves, and the bound of demand 3.
 #[derive(Clone, Copy)]
 struct Progress {
     pub block: Block,
-    pub place: usize,
     pub count: u64,
     pub moves: u64,
     pub bound: u64,
 }
 
-// What a run comes to: the place behind its last line, the total of moves, and the bound.
+// What a run comes to: the total of moves, and the bound.
 #[derive(Clone, Copy)]
 pub struct Totals {
-    pub place: usize,
     pub moves: u64,
     pub bound: u64,
 }
@@ -44,7 +42,6 @@ fn totals_of(progress: Progress) -> Totals
     ensures { result ≡ totals_of progress }
 {
     Totals {
-        place: progress.place,
         moves: progress.moves,
         bound: progress.bound,
     }
@@ -132,8 +129,8 @@ fn first_less_one(tasks: Tasks, task: TaskNo) -> u64
 }
 
 // One event: its call, its line, and what it adds to the totals.
-fn event(progress: Progress, event: Call, out: &mut [u8]) -> Progress
-    requires { Begins progress × (progress.place + event_room ≤ length out.old) }
+fn event(progress: Progress, event: Call, out: &mut Text) -> Progress
+    requires { Begins progress × HasRoom out.old event_room }
     ensures { Steps progress (call_in event) out.old result out.new }
 {
     let block = progress.block;
@@ -145,28 +142,22 @@ fn event(progress: Progress, event: Call, out: &mut [u8]) -> Progress
     let line = shown(count, called);
     let moves = progress.moves + line.moves;
     let bound = progress.bound + bound_by(tasks, event, answer);
-    let mut text = Text {
-        buffer: out,
-        at: progress.place,
-    };
-    event_line(&mut text, line);
+    event_line(out, line);
     Progress {
         block: after,
-        place: text.at,
         count,
         moves,
         bound,
     }
 }
 
-// All events of the stream, their lines from a place on.
-pub fn events(stream: &[u8], block: Block, out: &mut [u8], place: usize) -> Totals
-    requires { Whole block × (length stream.now ≤ longest) × (place + events_room ≤ length out.old) }
-    ensures { Ends block (calls_read stream.now) out.old place result out.new }
+// All events of the stream.
+pub fn events(stream: &[u8], block: Block, out: &mut Text) -> Totals
+    requires { Whole block × (length stream.now ≤ longest) × HasRoom out.old events_room }
+    ensures { Ends block (calls_read stream.now) out.old result out.new }
 {
     let mut now = Progress {
         block,
-        place,
         count: 0,
         moves: 0,
         bound: 0,

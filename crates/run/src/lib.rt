@@ -79,9 +79,8 @@ fn lines(stream: &[u8], block: Block, out: &mut Text)
     ensures { Writes out.old (output_of stream.now) room out.new }
 {
     plan_lines(block.tasks, out);
-    let ended = events(stream, block, out.buffer, out.at);
-    out.at = ended.place;
-    sum_line(out, ended.moves, ended.bound);
+    let totals = events(stream, block, out);
+    sum_line(out, totals.moves, totals.bound);
 }
 
 // Room for a stream and one byte more, by which a longer one is seen.

@@ -1,9 +1,9 @@
 -- What is written piece after piece. Assumes nothing.
-use mathlib.Core.Path.{◌≡◌, refl, ◌∙◌}
+use mathlib.Core.Path.{◌≡◌, refl, sym, ◌∙◌}
 use mathlib.Core.List.{List, [], ◌++◌}
 use Prim.Native.Nat.{ℕ, ◌+◌, ◌≤◌}
 use native.Mathlib.Omega.{arith}
-use Rattle.laws.proofs.Buffers.{puts_none, puts_then, puts_as}
+use Rattle.laws.proofs.Buffers.{puts_none, puts_then, puts_as, puts_one}
 use Rattle.text.specs.declared.Text.{Text}
 use Rattle.text.specs.Writes.{Writes}
 
@@ -19,3 +19,13 @@ module _ {a b : Text} {xs : List ℕ} {m : ℕ} (w : Writes a xs m b) where
 -- the same, said in another way
 pub writes_as : {a b : Text} {xs ys : List ℕ} {m n : ℕ} → xs ≡ ys → m ≤ n → Writes a xs m b → Writes a ys n b
 writes_as e h w = record { same = w.same; long = w.long; put = puts_as e w.put; near = omega (arith, w.near) }
+
+-- the same bytes in the same buffer, and the same place behind them
+pub record SameText (a b : Text) : Type 0 where
+  pub buffer : b.buffer.ghost_name ≡ a.buffer.ghost_name
+  pub bytes : b.buffer.now ≡ a.buffer.now
+  pub place : b.at ≡ a.at
+
+-- what is written determines the text
+pub writes_one : {a b c : Text} {xs : List ℕ} {m n : ℕ} → Writes a xs m b → Writes a xs n c → SameText b c
+writes_one w v = let put = puts_one w.put v.put in record { buffer = v.same ∙ sym w.same; bytes = put.0; place = put.1 }

@@ -28,11 +28,7 @@ pub overflow_add-bound : goal.overflow_add-bound
 overflow_add-bound c = let s = c in
     omega (arith, s.requires.0.count, s.requires.0.bound, c.bound_by.ensures.1)
 
-pub event_line-requires : goal.event_line-requires
-event_line-requires c = let s = c in
-    omega (arith, s.requires.1)
-
 pub returns : goal.returns
 returns c =
     steps c.args.progress c.requires.0 (call_in c.args.event) c.call-called.result c.call-called.ensures c.shown-line.result c.shown-line.ensures
-    c.bound_by.ensures.0 c.bound_by.ensures.1 c.event_line.ensures.put c.event_line.ensures.near (search rules)
+    c.bound_by.ensures.0 c.bound_by.ensures.1 c.event_line.ensures
