@@ -1,3 +1,3 @@
 -- Laws of numbers as text.
 pub mod Writes
-pub mod Digits
+pub mod Decimal

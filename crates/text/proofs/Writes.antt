@@ -1,8 +1,10 @@
 -- What is written piece after piece. Assumes nothing.
 use mathlib.Core.Path.{◌≡◌, refl, sym, ◌∙◌}
-use mathlib.Core.List.{List, [], ◌++◌}
-use Prim.Native.Nat.{ℕ, ◌+◌, ◌≤◌}
+use mathlib.Core.List.{List, [], ◌∷◌, ◌++◌}
+use Prim.Native.Nat.{ℕ, ◌+◌, ◌≤◌, ◌<◌}
 use native.Mathlib.Omega.{arith}
+use lib.ListN.{length, get_or, take}
+use Rattle.std.proofs.lemmas.List.{take_more}
 use Rattle.laws.proofs.Buffers.{puts_none, puts_then, puts_as, puts_one}
 use Rattle.text.specs.declared.Text.{Text}
 use Rattle.text.specs.Writes.{Writes}
@@ -29,3 +31,8 @@ pub record SameText (a b : Text) : Type 0 where
 -- what is written determines the text
 pub writes_one : {a b c : Text} {xs : List ℕ} {m n : ℕ} → Writes a xs m b → Writes a xs n c → SameText b c
 writes_one w v = let put = puts_one w.put v.put in record { buffer = v.same ∙ sym w.same; bytes = put.0; place = put.1 }
+
+-- one byte more of these
+pub writes_next : {a b c : Text} (xs : List ℕ) {i : ℕ} (d : ℕ) → Writes a (take i xs) i b → i < length xs → Writes b (get_or xs i d ∷ []) 1 c
+    → Writes a (take (i + 1) xs) (i + 1) c
+writes_next xs d w h v = writes_as (sym (take_more xs _ d h)) (omega arith) (writes_then w v)

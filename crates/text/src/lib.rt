@@ -5,11 +5,10 @@
 #![tactic(auto)]
 
 ghost use Rattle.std.specs.Prelude.{[], ◌∷◌};
-ghost use Rattle.rules.specs.Text.{digits, number_text, signed_text, column};
+ghost use Rattle.rules.specs.Text.{number_text, signed_text, column};
 ghost use Rattle.text.specs.Room.{number_room, column_room};
 
-// 20 digits are enough for 64 bits.
-const DIGITS: usize = 20;
+use itoa::Buffer;
 
 // A lent buffer, and the place behind what has been written.
 #[derive(Drop)]
@@ -29,26 +28,15 @@ impl<'a> Text<'a> {
         self.at += 1;
     }
 
-    // n in decimal, in at most k digits: first the digits above the last one, then the last.
-    fn digits(&mut self, n: u64, k: usize)
-        requires { HasRoom self.old k }
-        ensures { Writes self.old (digits k n) k self.new }
-    {
-        if k == 0 {
-            return;
-        }
-        if n >= 10 {
-            self.digits(n / 10, k - 1);
-        }
-        self.byte(b'0' + (n % 10) as u8);
-    }
-
     // A number in decimal.
     pub fn number(&mut self, n: u64)
         requires { HasRoom self.old number_room }
         ensures { Writes self.old (number_text n) number_room self.new }
     {
-        self.digits(n, DIGITS);
+        let mut digits = Buffer::new();
+        for byte in digits.format(n).as_bytes() {
+            self.byte(*byte);
+        }
     }
 
     // A number behind a blank.
