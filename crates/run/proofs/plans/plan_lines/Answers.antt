@@ -21,29 +21,30 @@ counted c = table_length c.args.tasks.table (long c)
 few : (c : Start) → c.args.tasks.table.count ≤ most
 few c = few_passed c.args.tasks.table (long c) c.requires.0.copy.tested
 
-pub overflow_add-k-end : goal.overflow_add-k-end
-overflow_add-k-end c = omega (arith, few (goal.at.overflow_add-k-end c).Start)
-
 pub loop-k-init : goal.loop-k-init
-loop-k-init c = (planning_first _ _, search rules)
+loop-k-init c = planning_first _ _
 
 pub overflow_cast-k : goal.overflow_cast-k
-overflow_cast-k c = let s = c in omega (arith, few (goal.at.overflow_cast-k c).Start, c.loop-k.invariant.1, c.loop-k-test.true)
+overflow_cast-k c = omega (arith, few (goal.at.overflow_cast-k c).Start, c.loop-k-test.true)
 
 pub task_line-requires : goal.task_line-requires
 task_line-requires c = let s = c in let i = c.loop-k.invariant in let start = (goal.at.task_line-requires c).Start in
-    let in_table : c.loop-k.k ≤ length (table_of s.args.tasks.table) = omega (arith, counted start, i.1, c.loop-k-test.true) in (
-      record { laid = s.requires.0; task = le_both (i.0.low, in_table) },
-      planning_room _ _ i.0 (omega (arith, counted start, few start)) in_table s.requires.1,
+    let in_table : c.loop-k.k ≤ length (table_of s.args.tasks.table) = omega (arith, counted start, c.loop-k-test.true) in (
+      record { laid = s.requires.0; task = le_both (i.low, in_table) },
+      planning_room _ _ i (omega (arith, counted start, few start)) in_table s.requires.1,
     )
 
-pub loop-k-smaller : goal.loop-k-smaller
-loop-k-smaller c = omega (arith, c.loop-k-test.true)
+pub overflow_step-k : goal.overflow_step-k
+overflow_step-k c = omega (arith, few (goal.at.overflow_step-k c).Start, c.loop-k-test.true)
 
 pub loop-k-preserved : goal.loop-k-preserved
-loop-k-preserved c = let i = c.loop-k.invariant in
-    (planning_next _ _ i.0 (omega (arith, counted (goal.at.loop-k-preserved c).Start, i.1, c.loop-k-test.true)) c.task_line.ensures, i.1)
+loop-k-preserved c = planning_next _ _ c.loop-k.invariant (omega (arith, counted (goal.at.loop-k-preserved c).Start, c.loop-k-test.true)) c.task_line.ensures
 
 pub returns : goal.returns
-returns c = let i = c.loop-k.invariant in let start = (goal.at.returns c).Start in
-    planning_end _ _ i.0 (omega (arith, counted start, few start)) (omega (arith, counted start, i.1, c.loop-k-test.false))
+returns c = let start = (goal.at.returns c).Start in
+    planning_end _ _ c.loop-k.invariant (omega (arith, counted start, few start)) (omega (arith, counted start, c.loop-k-test.false))
+
+pub returns-2 : goal.returns-2
+returns-2 c = let start = (goal.at.returns-2 c).Start in let small : length (table_of c.args.tasks.table) ≤ most = omega (arith, counted start, few start) in
+    let next = planning_next _ _ c.loop-k.invariant (omega (arith, counted start, c.loop-k-test.true)) c.task_line.ensures in
+    planning_end _ _ next small (omega (arith, counted start))

@@ -1,11 +1,6 @@
-use mathlib.Core.Path.{◌≡◌}
-use Prim.Native.Nat.{◌+◌, ◌-◌}
 use Rattle.table.specs.Stored.{table_of}
 use Rattle.run.proofs.Planning.{Planning}
 use Rattle.run.proofs.plans.plan_lines.Given as goal
 
 abbrev pub invariant-loop-k : goal.invariant-loop-k
-invariant-loop-k l = Planning (table_of l.tasks.table) l.initial.out l.k l.out × (l.k-end ≡ l.tasks.table.count + 1)
-
-abbrev pub decreases-loop-k : goal.decreases-loop-k
-decreases-loop-k l = l.k-end - l.k
+invariant-loop-k l = Planning (table_of l.tasks.table) l.initial.out l.k l.out
