@@ -6,97 +6,82 @@
 ghost use Rattle.std.specs.Prelude.{◌≡◌, ◌≤◌};
 ghost use Rattle.kernel.specs.Block.{Whole};
 ghost use Rattle.kernel.specs.Answers.{answer_in};
-ghost use Rattle.kernel.specs.Calls.{Gives, Does};
+ghost use Rattle.kernel.specs.Calls.{call_in, Does};
 ghost use Rattle.bench.specs.Sums.{call_by, named_in, Sums};
 
 use image::{BLOCK_BYTES, load};
-use kernel::{Answer, Block, Called, TaskNo};
+use kernel::{Block, Call, Called, TaskNo, task_number};
 
 // The task that an answer names; 0 where it names none.
 fn named(called: Called) -> u64
     ensures { (result ≡ named_in (answer_in called.answer)) × (result ≤ 255) }
 {
-    let answer = called.answer;
-    match answer {
-        Answer::Refused(_) => 0,
-        Answer::Accepted {
-            running,
-            moves: _,
-            margin: _,
-        } => running.number() as u64,
+    match called.answer {
+        Err(_) => 0,
+        Ok(accepted) => task_number(accepted.running) as u64,
     }
 }
 
-// A call of this kind: 0 release, 1 done, else clock.
-fn call(block: Block, kind: u8, reading: u32, task: u8) -> Called
-    ensures { Gives block (call_by kind reading task) result }
+// A call of this kind: 0 release, 1 done, else clock. (A number, as the C interface has it.)
+fn call_of(kind: u8, reading: u32, task: u8) -> Call
+    ensures { call_in result ≡ call_by kind reading task }
 {
-    if kind == 0 {
-        return block.release(reading, TaskNo(task));
+    let task = TaskNo(task);
+    match kind {
+        0 => Call::Release { reading, task },
+        1 => Call::Done { reading, task },
+        _ => Call::Clock { reading },
     }
-    if kind == 1 {
-        return block.done(reading, TaskNo(task));
-    }
-    block.clock(reading)
 }
 
-fn call_whole(block: Block, kind: u8, reading: u32, task: u8) -> Called
+// The inner form of a call.
+fn call_whole(block: Block, call: Call) -> Called
     requires { Whole block }
-    ensures { Does block (call_by kind reading task) result }
+    ensures { Does block (call_in call) result }
 {
-    if kind == 0 {
-        return block.release_whole(reading, TaskNo(task));
+    match call {
+        Call::Release { reading, task } => block.release_whole(reading, task),
+        Call::Done { reading, task } => block.done_whole(reading, task),
+        Call::Clock { reading } => block.clock_whole(reading),
     }
-    if kind == 1 {
-        return block.done_whole(reading, TaskNo(task));
+}
+
+// So many calls on the block that the bytes say, each made by `make`; 0 where they are no whole block.
+fn sum_of<F: Fn(Block, Call) -> Called>(make: F, block: &[u8], call: Call, times: u32) -> u64
+    requires { (b : Block) → Whole b → F.pre make (b, call) }
+    requires { (b : Block) (r : Called) → Whole b → F.post make (b, call) r → Does b (call_in call) r }
+    ensures { Sums block.now (call_in call) times result }
+{
+    if block.len() != BLOCK_BYTES {
+        return 0;
     }
-    block.clock_whole(reading)
+    let kept = load(block);
+    if !kept.whole() {
+        return 0;
+    }
+    let mut sum: u64 = 0;
+    let mut after = kept;
+    for _ in 0..times {
+        let called = make(kept, call);
+        sum += named(called);
+        after = called.block;
+    }
+    if !after.whole() {
+        return 0; // not reached
+    }
+    sum
 }
 
 // The public call, with its whole-test; 0 where the bytes are no whole block.
 pub fn bench_calls(block: &[u8], kind: u8, reading: u32, task: u8, times: u32) -> u64
     ensures { Sums block.now (call_by kind reading task) times result }
 {
-    if block.len() != BLOCK_BYTES {
-        return 0;
-    }
-    let kept = load(block);
-    if !kept.whole() {
-        return 0;
-    }
-    let mut sum: u64 = 0;
-    let mut after = kept;
-    for i in 0..times {
-        let called = call(kept, kind, reading, task);
-        sum += named(called);
-        after = called.block;
-    }
-    if !after.whole() {
-        return 0; // not reached
-    }
-    sum
+    sum_of(Block::call, block, call_of(kind, reading, task), times)
 }
 
 // The inner form, without the whole-test.
 pub fn bench_inner(block: &[u8], kind: u8, reading: u32, task: u8, times: u32) -> u64
     ensures { Sums block.now (call_by kind reading task) times result }
 {
-    if block.len() != BLOCK_BYTES {
-        return 0;
-    }
-    let kept = load(block);
-    if !kept.whole() {
-        return 0;
-    }
-    let mut sum: u64 = 0;
-    let mut after = kept;
-    for k in 0..times {
-        let called = call_whole(kept, kind, reading, task);
-        sum += named(called);
-        after = called.block;
-    }
-    if !after.whole() {
-        return 0; // not reached
-    }
-    sum
+    sum_of(call_whole, block, call_of(kind, reading, task), times)
 }

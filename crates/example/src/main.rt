@@ -3,13 +3,14 @@
 #![tactic(auto)]
 
 ghost use Rattle.rules.specs.Calls.{Release, Done, Clock};
-ghost use Rattle.kernel.specs.Calls.{Follows};
+ghost use Rattle.kernel.specs.Calls.{call_in, Follows};
+ghost use Rattle.refusals.specs.Numbers.{number_by};
 
-use kernel::asks::Listed;
 use kernel::start::start;
-use kernel::{Answer, Block, Called, MOST, Margin, Plan, Table, Task, TaskNo};
-use lent::{clock_through, done_through, release_through};
+use kernel::{Block, Call, Called, MOST, Plan, Table, Task, TaskNo, task_number};
+use lent::call_through;
 use lines::{Shown, event_line};
+use refusals::Refused;
 use std::io;
 use std::io::Write;
 use text::Text;
@@ -118,21 +119,24 @@ fn refused(out: &impl Print) {
         },
         0,
     );
-    let verdict = started.verdict;
     let block = started.block;
-    number(out, verdict.number() as u64);
-    let called = clock_through(block, 0);
-    let answer = called.answer;
-    if let Answer::Refused(refusal) = answer {
-        column(out, refusal.number() as u64);
-    }
+    number(out, number_of(started.verdict) as u64);
+    let called = call_through(block, Call::Clock { reading: 0 });
+    column(out, number_of(called.answer) as u64);
     let mut room = [0u8; 2 * MOST];
-    let listed = block.listing(&mut room);
-    column(out, listed.number() as u64);
-    let planned = block.plan(TaskNo(1));
-    let asked = planned.answer;
-    column(out, asked.number() as u64);
+    column(out, number_of(block.listing(&mut room)) as u64);
+    column(out, number_of(block.plan(TaskNo(1))) as u64);
     text(out, b"\n");
+}
+
+// "No.", and 0 where there is no refusal.
+fn number_of<T: Copy, R: Refused + Copy>(answer: Result<T, R>) -> u8
+    ensures { result ≡ number_by R.means answer }
+{
+    match answer {
+        Ok(_) => 0,
+        Err(refusal) => refusal.number(),
+    }
 }
 
 // ---- calls by the block's address
@@ -141,33 +145,44 @@ fn refused(out: &impl Print) {
 fn released(block: Block, task: u8) -> Block
     ensures { Follows block (Release 0 task) result }
 {
-    let called = release_through(block, 0, TaskNo(task));
-    called.block
+    call_through(
+        block,
+        Call::Release {
+            reading: 0,
+            task: TaskNo(task),
+        },
+    )
+    .block
 }
 
 // A release and its line; and the block after it.
 fn release(out: &impl Print, block: Block, count: u64, reading: u32, task: u8) -> Block
     ensures { Follows block (Release reading task) result }
 {
-    let called = release_through(block, reading, TaskNo(task));
-    event(out, count, called);
-    called.block
+    let task = TaskNo(task);
+    made(out, block, count, Call::Release { reading, task })
 }
 
 // The same for done.
 fn done(out: &impl Print, block: Block, count: u64, reading: u32, task: u8) -> Block
     ensures { Follows block (Done reading task) result }
 {
-    let called = done_through(block, reading, TaskNo(task));
-    event(out, count, called);
-    called.block
+    let task = TaskNo(task);
+    made(out, block, count, Call::Done { reading, task })
 }
 
 // The same for clock.
 fn clock(out: &impl Print, block: Block, count: u64, reading: u32) -> Block
     ensures { Follows block (Clock reading) result }
 {
-    let called = clock_through(block, reading);
+    made(out, block, count, Call::Clock { reading })
+}
+
+// A call and its line; and the block after it.
+fn made(out: &impl Print, block: Block, count: u64, call: Call) -> Block
+    ensures { Follows block (call_in call) result }
+{
+    let called = call_through(block, call);
     event(out, count, called);
     called.block
 }
@@ -177,42 +192,26 @@ fn clock(out: &impl Print, block: Block, count: u64, reading: u32) -> Block
 // The line of a call: its answer, and the number that a listing gives then. "After a refused event, running and waiting are as before and
 // moves are 0."
 fn event(out: &impl Print, count: u64, called: Called) {
-    let answer = called.answer;
     let block = called.block;
-    let ready = block.ready;
-    let before = ready.running;
     let mut room = [0u8; 2 * MOST];
-    let listed = block.listing(&mut room);
-    if let Listed::Waiting(n) = listed {
-        match answer {
-            Answer::Accepted {
-                running,
-                moves,
-                margin,
-            } => line(
-                out,
-                Shown {
-                    count,
-                    answer: 0,
-                    running: running.number() as u64,
-                    moves: moves as u64,
-                    waiting: n as u64,
-                    margin,
-                },
-            ),
-            Answer::Refused(refusal) => line(
-                out,
-                Shown {
-                    count,
-                    answer: refusal.number() as u64,
-                    running: before.number() as u64,
-                    moves: 0,
-                    waiting: n as u64,
-                    margin: Margin::None,
-                },
-            ),
-        }
-    }
+    let Ok(waiting) = block.listing(&mut room) else {
+        return;
+    };
+    let (running, moves, margin) = match called.answer {
+        Ok(accepted) => (accepted.running, accepted.moves, accepted.margin),
+        Err(_) => (block.ready.running, 0, None),
+    };
+    line(
+        out,
+        Shown {
+            count,
+            answer: number_of(called.answer) as u64,
+            running: task_number(running) as u64,
+            moves: moves as u64,
+            waiting: waiting as u64,
+            margin,
+        },
+    );
 }
 
 fn line(out: &impl Print, shown: Shown) {
@@ -230,22 +229,19 @@ fn line(out: &impl Print, shown: Shown) {
 fn plan_line(out: &impl Print, block: Block, task: u8) {
     number(out, task as u64);
     let planned = block.plan(TaskNo(task));
-    let answer = planned.answer;
-    column(out, answer.number() as u64);
-    let plan = planned.plan;
-    points(out, plan);
+    column(out, number_of(planned) as u64);
+    if let Ok(plan) = planned {
+        points(out, plan);
+    }
     text(out, b"\n");
 }
 
 // "` point:level` for each promotion"
 fn points(out: &impl Print, plan: Plan) {
-    let mut i: usize = 0;
-    while i < plan.count && i < MOST {
-        let point = plan.points[i];
+    for point in plan.points.iter().take(plan.count) {
         column(out, point.at as u64);
         text(out, b":");
         number(out, point.level.0 as u64);
-        i += 1;
     }
 }
 
@@ -253,11 +249,10 @@ fn points(out: &impl Print, plan: Plan) {
 fn listing(out: &impl Print, block: Block, buffer: &mut [u8]) {
     number(out, buffer.len() as u64);
     let listed = block.listing(buffer);
-    column(out, listed.number() as u64);
+    column(out, number_of(listed) as u64);
     match listed {
-        Listed::Waiting(n) => column(out, n as u64),
-        Listed::BufferTooShort => text(out, b" -"),
-        Listed::NotWhole => text(out, b" -"),
+        Ok(n) => column(out, n as u64),
+        Err(_) => text(out, b" -"),
     }
     columns(out, buffer);
     text(out, b"\n");
@@ -279,7 +274,7 @@ fn column(out: &impl Print, n: u64) {
 }
 
 fn columns(out: &impl Print, bytes: &[u8]) {
-    for i in 0..bytes.len() {
-        column(out, bytes[i] as u64);
+    for byte in bytes {
+        column(out, *byte as u64);
     }
 }

@@ -1,5 +1,5 @@
 -- What the doors for other languages give back, over the bytes of a block.
-use Rattle.std.specs.Prelude.{ℕ, suc, ◌+◌, ◌*◌, ◌≡◌, Bool, true, false, List, [], ◌∷◌, ◌++◌, eqb, pos, negsuc, length}
+use Rattle.std.specs.Prelude.{ℕ, suc, ◌+◌, ◌*◌, ◌≡◌, Bool, true, false, List, [], ◌∷◌, ◌++◌, eqb, pos, negsuc, length, Result}
 use Rattle.laws.specs.Words.{pick, Decides, digit, written, Puts}
 use Rattle.rules.specs.Numbers.{NotWhole, number_of, value_of, given, Verdict, Passed, Failed, first_of}
 use Rattle.rules.specs.Levels.{Point}
@@ -8,7 +8,7 @@ use Rattle.rules.specs.Lines.{task_in}
 use Rattle.rules.specs.Records.{tasks_read, runner_tests}
 use Rattle.kernel.specs.declared.Called.{Called}
 use Rattle.kernel.specs.declared.start.Started.{Started}
-use Rattle.kernel.specs.declared.asks.Listed.{Listed}
+use Rattle.kernel.specs.declared.Refusal.{Refusal}
 use Rattle.kernel.specs.Block.{view_of, Whole, Sizes, Test15}
 use Rattle.kernel.specs.Answers.{answer_in}
 use Rattle.kernel.specs.Calls as Calls
@@ -94,7 +94,7 @@ number_by n (Failed q) = 256 * number_of q
 
 abbrev pub TellsListingBy : List ℕ → List ℕ → ℕ → List ℕ → Bool → Type 0
 TellsListingBy bytes before r after true =
-    (l : Listed) × Asks.GivesListing (block_in bytes) before l after × (r ≡ number_by (Asks.listed_in l after).waiting (Asks.listed_in l after).verdict)
+    (l : Result ℕ Refusal) × Asks.GivesListing (block_in bytes) before l after × (r ≡ number_by (Asks.listed_in l after).waiting (Asks.listed_in l after).verdict)
 TellsListingBy bytes before r after false = (r ≡ 256 * number_of NotWhole) × (after ≡ before)
 
 abbrev pub TellsListing : List ℕ → List ℕ → ℕ → List ℕ → Type 0

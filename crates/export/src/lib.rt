@@ -20,9 +20,8 @@ ghost use Rattle.run.specs.Run.{Runs};
 ghost use Rattle.export.specs.Door.{kind_of, ticks_of, BlockSized, Answers, TellsStart, TellsListing, PlanPut, TellsPlan, Tells, TellsWhole};
 
 use image::{BLOCK_BYTES, load, save};
-use kernel::asks::{Asked, Listed};
 use kernel::start::start;
-use kernel::{Answer, Called, MOST, Margin, Plan, TaskNo, Verdict};
+use kernel::{Call, Called, MOST, Plan, TaskNo, task_number};
 use refusals::Refused;
 use run::run;
 use stream::{stream_test, table_in};
@@ -44,40 +43,30 @@ pub fn meter_start(stream: &[u8], reading: u32, block: &mut [u8]) -> usize
     if let Err(refusal) = stream_test(stream) {
         return refusal.number() as usize + 256 * refusal.given();
     }
-    let table = table_in(stream);
-    let started = start(table, reading);
-    let verdict = started.verdict;
-    if let Verdict::Sound = verdict {
-        let first = started.block;
-        save(first, block);
-        return 0;
+    let started = start(table_in(stream), reading);
+    if let Err(refusal) = started.verdict {
+        return refusal.number() as usize + 256 * refusal.given();
     }
-    verdict.number() as usize + 256 * verdict.task() as usize
+    save(started.block, block);
+    0
 }
 
 // 0 where the margin is none, 1 where it is 0 or more, 2 where the job was late.
-fn kind_of(margin: Margin) -> u64
+fn kind_of(margin: Option<i64>) -> u64
     ensures { result ≡ kind_of (margin_in margin) }
 {
     match margin {
-        Margin::None => 0,
-        Margin::Ticks(ticks) => {
-            if ticks < 0 {
-                return 2;
-            }
-            1
-        }
+        None => 0,
+        Some(ticks) if ticks < 0 => 2,
+        Some(_) => 1,
     }
 }
 
 // How many ticks before or behind the deadline.
-fn ticks_of(margin: Margin) -> u64
+fn ticks_of(margin: Option<i64>) -> u64
     ensures { result ≡ ticks_of (margin_in margin) }
 {
-    match margin {
-        Margin::None => 0,
-        Margin::Ticks(ticks) => ticks.unsigned_abs(),
-    }
+    margin.map_or(0, |ticks| ticks.unsigned_abs())
 }
 
 // The number of what a call gave back. Where it was accepted, the block is stored, and the answer: who runs (0 nobody), moves, the margin's
@@ -86,21 +75,15 @@ fn answered(called: Called, block: &mut [u8], answer: &mut [u64; 4]) -> u8
     requires { BlockSized block.old }
     ensures { Answers called block.old answer.old result block.new answer.new }
 {
-    let given = called.answer;
-    let after = called.block;
-    match given {
-        Answer::Refused(refusal) => refusal.number(),
-        Answer::Accepted {
-            running,
-            moves,
-            margin,
-        } => {
-            save(after, block);
+    match called.answer {
+        Err(refusal) => refusal.number(),
+        Ok(accepted) => {
+            save(called.block, block);
             *answer = [
-                running.number() as u64,
-                moves as u64,
-                kind_of(margin),
-                ticks_of(margin),
+                task_number(accepted.running) as u64,
+                accepted.moves as u64,
+                kind_of(accepted.margin),
+                ticks_of(accepted.margin),
             ];
             0
         }
@@ -145,10 +128,9 @@ pub fn meter_listing(block: &[u8], buffer: &mut [u8]) -> usize
     if block.len() != BLOCK_BYTES {
         return 256 * refusals::NOT_WHOLE as usize;
     }
-    let listed = load(block).listing(buffer);
-    match listed {
-        Listed::Waiting(n) => n,
-        other => 256 * other.number() as usize,
+    match load(block).listing(buffer) {
+        Ok(n) => n,
+        Err(refusal) => 256 * refusal.number() as usize,
     }
 }
 
@@ -157,11 +139,9 @@ fn put_plan(plan: Plan, points: &mut [u32; 2 * MOST])
     requires { plan.count ≤ most }
     ensures { PlanPut points.old (points_in plan) points.new }
 {
-    for i in 0..plan.count {
-        let point = plan.points[i];
-        let level = point.level;
+    for (i, point) in plan.points[..plan.count].iter().enumerate() {
         points[2 * i] = point.at;
-        points[2 * i + 1] = level.0 as u32;
+        points[2 * i + 1] = point.level.0 as u32;
     }
 }
 
@@ -172,13 +152,12 @@ pub fn meter_plan(block: &[u8], task: u8, points: &mut [u32; 2 * MOST]) -> usize
     if block.len() != BLOCK_BYTES {
         return 256 * refusals::NOT_WHOLE as usize;
     }
-    let planned = load(block).plan(TaskNo(task));
-    let plan = planned.plan;
-    put_plan(plan, points);
-    let answer = planned.answer;
-    match answer {
-        Asked::Given => plan.count,
-        other => 256 * other.number() as usize,
+    match load(block).plan(TaskNo(task)) {
+        Ok(plan) => {
+            put_plan(plan, points);
+            plan.count
+        }
+        Err(refusal) => 256 * refusal.number() as usize,
     }
 }
 
@@ -189,8 +168,5 @@ pub fn meter_whole(block: &[u8]) -> u8
     if block.len() != BLOCK_BYTES {
         return 0;
     }
-    if load(block).whole() {
-        return 1;
-    }
-    0
+    load(block).whole() as u8
 }

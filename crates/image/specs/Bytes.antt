@@ -1,17 +1,13 @@
 -- A block as bytes, part by part, and the block that bytes say. Theorem `block_kept`: of a block's own bytes it is that block.
-use Rattle.std.specs.Prelude.{ℕ, zero, suc, ◌+◌, ◌*◌, ◌/◌, ◌%◌, ◌^◌, ◌<◌, ◌≡◌, Bool, not, List, [], ◌∷◌, ◌++◌, eqb, length, get_or}
+use Rattle.std.specs.Prelude.{ℕ, zero, suc, ◌+◌, ◌*◌, ◌/◌, ◌%◌, ◌^◌, ◌<◌, ◌≡◌, Bool, not, List, [], ◌∷◌, ◌++◌, eqb, length, get_or, Option, None, Some}
 use Rattle.laws.specs.Words.{pick, digit, All}
 use Rattle.rules.specs.Table.{most}
 use Rattle.rules.specs.Records.{word}
 use Rattle.table.specs.declared.Task.{Task}
 use Rattle.table.specs.declared.TaskNo.{TaskNo}
-use Rattle.lists.specs.declared.Who.{Who}
-use Rattle.lists.specs.declared.Who.TheVariants.{Nobody, One}
 use Rattle.lists.specs.declared.Stored.{Stored}
 use Rattle.lists.specs.Answers.{stored_of, lists_of}
 use Rattle.jobs.specs.declared.Job.{Job}
-use Rattle.jobs.specs.declared.Last.{Last}
-use Rattle.jobs.specs.declared.Last.TheVariants.{Never, At}
 use Rattle.jobs.specs.declared.Tasks.{Tasks}
 use Rattle.ready.specs.declared.Ready.{Ready}
 use Rattle.kernel.specs.declared.Now.{Now}
@@ -33,16 +29,16 @@ abbrev pub task_bytes : Task → List ℕ
 task_bytes x = little 4 x.c ++ little 4 x.d ++ little 4 x.t
 
 -- whether there was a release, and its time
-abbrev pub last_bytes : Last → List ℕ
-last_bytes Never = 0 ∷ little 8 0
-last_bytes (At time) = 1 ∷ little 8 time
+abbrev pub last_bytes : Option ℕ → List ℕ
+last_bytes None = 0 ∷ little 8 0
+last_bytes (Some time) = 1 ∷ little 8 time
 
 abbrev pub job_bytes : Job → List ℕ
 job_bytes x = digit x.active ∷ last_bytes x.last
 
-abbrev pub who_bytes : Who → List ℕ
-who_bytes Nobody = 0 ∷ 0 ∷ []
-who_bytes (One k) = 1 ∷ k.0 ∷ []
+abbrev pub who_bytes : Option TaskNo → List ℕ
+who_bytes None = 0 ∷ 0 ∷ []
+who_bytes (Some k) = 1 ∷ k.0 ∷ []
 
 abbrev pub task_no_bytes : TaskNo → List ℕ
 task_no_bytes k = k.0 ∷ []
@@ -81,8 +77,8 @@ task_from s at = record { c = word s at; d = word s (at + 4); t = word s (at + 8
 abbrev pub says : List ℕ → ℕ → Bool
 says s at = not (eqb (get_or s at 0) 0)
 
-abbrev pub last_from : List ℕ → ℕ → Last
-last_from s at = pick (says s at) (At (long_word s (at + 1))) Never
+abbrev pub last_from : List ℕ → ℕ → Option ℕ
+last_from s at = pick (says s at) (Some (long_word s (at + 1))) None
 
 abbrev pub job_from : List ℕ → ℕ → Job
 job_from s at = record { active = says s at; last = last_from s (at + 1) }
@@ -90,8 +86,8 @@ job_from s at = record { active = says s at; last = last_from s (at + 1) }
 abbrev pub task_no_from : List ℕ → ℕ → TaskNo
 task_no_from s at = record { 0 = get_or s at 0 }
 
-abbrev pub who_from : List ℕ → ℕ → Who
-who_from s at = pick (says s at) (One (task_no_from s (at + 1))) Nobody
+abbrev pub who_from : List ℕ → ℕ → Option TaskNo
+who_from s at = pick (says s at) (Some (task_no_from s (at + 1))) None
 
 abbrev pub tasks_from : List ℕ → ℕ → Tasks
 tasks_from s at =
@@ -162,9 +158,9 @@ pub record Array {X : Type 0} (n : ℕ) (P : X → Type 0) (xs : List X) : Type 
 abbrev pub TaskFits : Task → Type 0
 TaskFits x = Small 4 x.c × Small 4 x.d × Small 4 x.t
 
-abbrev pub LastFits : Last → Type 0
-LastFits Never = Unit {0}
-LastFits (At time) = Small 8 time
+abbrev pub LastFits : Option ℕ → Type 0
+LastFits None = Unit {0}
+LastFits (Some time) = Small 8 time
 
 abbrev pub JobFits : Job → Type 0
 JobFits x = LastFits x.last
@@ -172,9 +168,9 @@ JobFits x = LastFits x.last
 abbrev pub TaskNoFits : TaskNo → Type 0
 TaskNoFits k = Small 1 k.0
 
-abbrev pub WhoFits : Who → Type 0
-WhoFits Nobody = Unit {0}
-WhoFits (One k) = TaskNoFits k
+abbrev pub WhoFits : Option TaskNo → Type 0
+WhoFits None = Unit {0}
+WhoFits (Some k) = TaskNoFits k
 
 pub record TasksFit (x : Tasks) : Type 0 where
   pub count : Small 8 x.table.count

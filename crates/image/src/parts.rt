@@ -3,9 +3,9 @@ ghost use Rattle.image.specs.Bytes.{task_bytes, task_from, task_no_bytes, task_n
 ghost use Rattle.image.specs.Bytes.{tasks_size, tasks_bytes, tasks_from, stored_size, stored_bytes, stored_from, ready_size, ready_bytes, ready_from, now_bytes, now_from};
 
 use crate::part::{Part, put_all, take_all};
-use jobs::{Job, Last, Tasks};
+use jobs::{Job, Tasks};
 use kernel::Now;
-use lists::{Lists, Stored, Who};
+use lists::{Lists, Stored};
 use ready::Ready;
 use table::{MOST, PLACES, Table, Task, TaskNo};
 
@@ -79,7 +79,7 @@ impl Part for Tasks {
 }
 
 // A byte that tells whether there was a release, and its time.
-impl Part for Last {
+impl Part for Option<u64> {
     const SIZE: usize = 9;
 
     ghost SIZE = { 9 };
@@ -90,18 +90,18 @@ impl Part for Last {
 
     fn put(self, bytes: &mut [u8], at: usize) {
         let (released, time) = match self {
-            Last::Never => (false, 0),
-            Last::At(time) => (true, time),
+            None => (false, 0),
+            Some(time) => (true, time),
         };
         released.put(bytes, at);
         time.put(bytes, at + 1);
     }
 
-    fn take(bytes: &[u8], at: usize) -> Last {
+    fn take(bytes: &[u8], at: usize) -> Option<u64> {
         if bool::take(bytes, at) {
-            return Last::At(u64::take(bytes, at + 1));
+            return Some(u64::take(bytes, at + 1));
         }
-        Last::Never
+        None
     }
 }
 
@@ -122,13 +122,13 @@ impl Part for Job {
     fn take(bytes: &[u8], at: usize) -> Job {
         Job {
             active: bool::take(bytes, at),
-            last: Last::take(bytes, at + 1),
+            last: Option::take(bytes, at + 1),
         }
     }
 }
 
 // A byte that tells whether a job runs, and its task.
-impl Part for Who {
+impl Part for Option<TaskNo> {
     const SIZE: usize = 2;
 
     ghost SIZE = { 2 };
@@ -139,18 +139,18 @@ impl Part for Who {
 
     fn put(self, bytes: &mut [u8], at: usize) {
         let (runs, task) = match self {
-            Who::Nobody => (false, TaskNo(0)),
-            Who::One(task) => (true, task),
+            None => (false, TaskNo(0)),
+            Some(task) => (true, task),
         };
         runs.put(bytes, at);
         task.put(bytes, at + 1);
     }
 
-    fn take(bytes: &[u8], at: usize) -> Who {
+    fn take(bytes: &[u8], at: usize) -> Option<TaskNo> {
         if bool::take(bytes, at) {
-            return Who::One(TaskNo::take(bytes, at + 1));
+            return Some(TaskNo::take(bytes, at + 1));
         }
-        Who::Nobody
+        None
     }
 }
 
@@ -193,12 +193,12 @@ impl Part for Ready {
 
     fn put(self, bytes: &mut [u8], at: usize) {
         self.running.put(bytes, at);
-        self.lists.stored().put(bytes, at + 2);
+        Stored::from(self.lists).put(bytes, at + 2);
     }
 
     fn take(bytes: &[u8], at: usize) -> Ready {
-        let running = Who::take(bytes, at);
-        let lists = Lists::of(Stored::take(bytes, at + 2));
+        let running = Option::take(bytes, at);
+        let lists = Lists::from(Stored::take(bytes, at + 2));
         Ready { running, lists }
     }
 }

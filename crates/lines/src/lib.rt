@@ -18,7 +18,7 @@ ghost use Rattle.levels.specs.Copy.{points_in};
 ghost use Rattle.lines.specs.Shown.{numbers_text, shown_as};
 ghost use Rattle.lines.specs.Room.{margin_room, numbers_room, points_room, plan_room, event_room};
 
-use kernel::{Level, Margin, Plan};
+use kernel::{Level, Plan};
 use text::Text;
 
 // What an E line shows.
@@ -29,7 +29,7 @@ pub struct Shown {
     pub running: u64,
     pub moves: u64,
     pub waiting: u64,
-    pub margin: Margin,
+    pub margin: Option<i64>,
 }
 
 // A letter and two numbers: the lines X and S.
@@ -60,14 +60,14 @@ pub fn sum_line(out: &mut Text, total: u64, bound: u64)
 }
 
 // "margin or `-`", behind a blank.
-fn put_margin(out: &mut Text, margin: Margin)
+fn put_margin(out: &mut Text, margin: Option<i64>)
     requires { HasRoom out.old margin_room }
     ensures { Writes out.old (margin_text (margin_in margin)) margin_room out.new }
 {
     out.byte(b' ');
     match margin {
-        Margin::None => out.byte(b'-'),
-        Margin::Ticks(ticks) => out.signed(ticks),
+        None => out.byte(b'-'),
+        Some(ticks) => out.signed(ticks),
     }
 }
 

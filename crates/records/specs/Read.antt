@@ -1,18 +1,12 @@
 -- What is read, as the rules' records.
 use Rattle.std.specs.Prelude.{ℕ, List, Option, Some, None, Result, Ok, Err}
 use Rattle.laws.specs.Words.{pick}
-use Rattle.rules.specs.Calls as Calls
 use Rattle.rules.specs.Records as Rules
 use Rattle.table.specs.Stored.{task_of}
+use Rattle.kernel.specs.Calls.{call_in}
 use Rattle.records.specs.declared.Mark.{Mark}
-use Rattle.records.specs.declared.Call.{Call}
 use Rattle.records.specs.declared.Record.{Record}
 use Rattle.records.specs.declared.Unreadable.{Unreadable}
-
-abbrev pub call_in : Call → Calls.Call
-call_in (Call.Release reading task) = Calls.Release reading task.0
-call_in (Call.Done reading task) = Calls.Done reading task.0
-call_in (Call.Clock reading) = Calls.Clock reading
 
 abbrev pub record_in : Record → Rules.Record
 record_in (Record.Task x) = Rules.TaskRecord (task_of x)

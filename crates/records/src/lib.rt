@@ -13,7 +13,7 @@ ghost use Rattle.std.specs.Iterator.{at_most};
 ghost use Rattle.rules.specs.Records.{word, record_at};
 ghost use Rattle.records.specs.Read.{mark_in, size_in, says_in, read_as, found_in};
 
-use table::{Task, TaskNo};
+use kernel::{Call, Task, TaskNo};
 
 // The two bytes before a record.
 #[derive(Clone, Copy)]
@@ -24,14 +24,7 @@ enum Mark {
     Clock,
 }
 
-// "calls (release, done, clock)": what an event record says.
-#[derive(Clone, Copy)]
-pub enum Call {
-    Release { reading: u32, task: TaskNo },
-    Done { reading: u32, task: TaskNo },
-    Clock { reading: u32 },
-}
-
+// What a record says: a task of the table, or an event, "calls (release, done, clock)".
 #[derive(Clone, Copy)]
 pub enum Record {
     Task(Task),

@@ -7,19 +7,19 @@ ghost use Rattle.rules.specs.Histories.{bound_by};
 ghost use Rattle.rules.specs.Records.{calls_read};
 ghost use Rattle.table.specs.Stored.{table_of};
 ghost use Rattle.lines.specs.Shown.{shown_as};
-ghost use Rattle.records.specs.Read.{call_in};
 ghost use Rattle.kernel.specs.Block.{Whole};
 ghost use Rattle.kernel.specs.Answers.{answer_in};
-ghost use Rattle.kernel.specs.Calls.{Gives};
+ghost use Rattle.kernel.specs.Calls.{call_in};
 ghost use Rattle.text.specs.Writes.{HasRoom};
 ghost use Rattle.lines.specs.Room.{event_room};
 ghost use Rattle.run.specs.Run.{totals_of, step_in, events_room, LaidTask, Boundable, Steps, Begins, Ends};
 
 use jobs::Tasks;
-use kernel::{Answer, Block, Called, Margin, TaskNo};
+use kernel::{Accepted, Block, Call, Called, Refusal, TaskNo, task_number};
 use levels::first_level;
 use lines::{Shown, event_line};
-use records::{Call, Reader, Record};
+use records::{Reader, Record};
+use refusals::Refused;
 use text::Text;
 
 // How far a run has come: the block, how many events there were, the total of moves, and the bound of demand 3.
@@ -47,72 +47,42 @@ fn totals_of(progress: Progress) -> Totals
     }
 }
 
-// The call that an event is.
-fn call(block: Block, event: Call) -> Called
-    ensures { Gives block (call_in event) result }
-{
-    match event {
-        Call::Release { reading, task } => block.release(reading, task),
-        Call::Done { reading, task } => block.done(reading, task),
-        Call::Clock { reading } => block.clock(reading),
-    }
-}
-
 // What the line of an event shows: running and waiting are those after it, moves and margin those of its answer.
 fn shown(count: u64, called: Called) -> Shown
     requires { Whole called.block }
     ensures { shown_as result ≡ Rules.line_of count (step_in called) }
 {
-    let answer = called.answer;
-    let block = called.block;
-    let ready = block.ready;
-    let lists = ready.lists;
-    let who = ready.running;
-    let running = who.number() as u64;
-    let waiting = lists.waiting() as u64;
-    match answer {
-        Answer::Accepted {
-            running: _,
-            moves,
-            margin,
-        } => Shown {
+    let ready = called.block.ready;
+    let running = task_number(ready.running) as u64;
+    let waiting = ready.lists.waiting() as u64;
+    match called.answer {
+        Ok(accepted) => Shown {
             count,
             answer: 0,
             running,
-            moves: moves as u64,
+            moves: accepted.moves as u64,
             waiting,
-            margin,
+            margin: accepted.margin,
         },
-        Answer::Refused(refusal) => Shown {
+        Err(refusal) => Shown {
             count,
             answer: refusal.number() as u64,
             running,
             moves: 0,
             waiting,
-            margin: Margin::None,
+            margin: None,
         },
     }
 }
 
 // What an event adds to the bound of demand 3: an accepted release "the released task's first level less one", any other nothing.
-fn bound_by(tasks: Tasks, event: Call, answer: Answer) -> u64
+fn bound_by(tasks: Tasks, event: Call, answer: Result<Accepted, Refusal>) -> u64
     requires { Boundable tasks (call_in event) (answer_in answer) }
     ensures { (result ≡ bound_by (table_of tasks.table) (call_in event) (answer_in answer)) × (result ≤ 256) }
 {
-    match event {
-        Call::Done {
-            reading: _,
-            task: _,
-        } => 0,
-        Call::Clock { reading: _ } => 0,
-        Call::Release { reading: _, task } => match answer {
-            Answer::Refused(_) => 0,
-            Answer::Accepted {
-                running: _,
-                moves: _,
-                margin: _,
-            } => first_less_one(tasks, task),
-        },
+    match (event, answer) {
+        (Call::Release { reading: _, task }, Ok(_)) => first_less_one(tasks, task),
+        _ => 0,
     }
 }
 
@@ -133,18 +103,15 @@ fn event(progress: Progress, event: Call, out: &mut Text) -> Progress
     requires { Begins progress × HasRoom out.old event_room }
     ensures { Steps progress (call_in event) out.old result out.new }
 {
-    let block = progress.block;
-    let tasks = block.tasks;
+    let tasks = progress.block.tasks;
     let count = progress.count + 1;
-    let called = call(block, event);
-    let answer = called.answer;
-    let after = called.block;
+    let called = progress.block.call(event);
     let line = shown(count, called);
     let moves = progress.moves + line.moves;
-    let bound = progress.bound + bound_by(tasks, event, answer);
+    let bound = progress.bound + bound_by(tasks, event, called.answer);
     event_line(out, line);
     Progress {
-        block: after,
+        block: called.block,
         count,
         moves,
         bound,

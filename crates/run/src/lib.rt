@@ -21,7 +21,7 @@ ghost use Rattle.run.specs.Run.{room, Runs, StartedBy};
 
 use events::events;
 use kernel::start::start;
-use kernel::{Block, Verdict};
+use kernel::Block;
 use lines::{refusal_line, sum_line};
 use plans::plan_lines;
 use refusals::Refused;
@@ -62,14 +62,10 @@ fn report(stream: &[u8], out: &mut Text)
     requires { (stream_of stream.now ≡ Passed) × HasRoom out.old room }
     ensures { Writes out.old (output_of stream.now) room out.new }
 {
-    let table = table_in(stream);
-    let started = start(table, 0);
-    let verdict = started.verdict;
-    let block = started.block;
-    if let Verdict::Sound = verdict {
-        lines(stream, block, out);
-    } else {
-        refusal_line(out, verdict.number() as u64, verdict.task() as u64);
+    let started = start(table_in(stream), 0);
+    match started.verdict {
+        Ok(()) => lines(stream, started.block, out),
+        Err(refusal) => refusal_line(out, refusal.number() as u64, refusal.given() as u64),
     }
 }
 
