@@ -2,9 +2,10 @@
 // address, and the block of a refused start. What is written is compared with the file stdout, which is written from the paper.
 #![tactic(auto)]
 
+ghost use Rattle.std.specs.Prelude.{◌≡◌, IfOk, IfErr};
+ghost use Rattle.rules.specs.Numbers.{number_of};
 ghost use Rattle.rules.specs.Calls.{Release, Done, Clock};
 ghost use Rattle.kernel.specs.Calls.{call_in, Follows};
-ghost use Rattle.refusals.specs.Numbers.{number_by};
 
 use kernel::start::start;
 use kernel::{Block, Call, Called, MOST, Plan, Table, Task, TaskNo, task_number};
@@ -112,13 +113,11 @@ fn refused(out: &impl Print) {
         b"a refused start: its number, and what clock, listing and plan of its block answer\n",
     );
     let none = Task { c: 0, d: 0, t: 0 };
-    let started = start(
-        Table {
-            count: 0,
-            tasks: [none; MOST],
-        },
-        0,
-    );
+    let empty = Table {
+        count: 0,
+        tasks: [none; MOST],
+    };
+    let started = start(empty, 0);
     let block = started.block;
     number(out, number_of(started.verdict) as u64);
     let called = call_through(block, Call::Clock { reading: 0 });
@@ -131,7 +130,7 @@ fn refused(out: &impl Print) {
 
 // "No.", and 0 where there is no refusal.
 fn number_of<T: Copy, R: Refused + Copy>(answer: Result<T, R>) -> u8
-    ensures { result ≡ number_by R.means answer }
+    ensures { IfOk answer (λ x. result ≡ 0) × IfErr answer (λ r. result ≡ number_of (R.means r)) }
 {
     match answer {
         Ok(_) => 0,
