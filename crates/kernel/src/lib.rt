@@ -153,7 +153,7 @@ impl Block {
     }
 
     // "release: the task's job becomes active."
-    pub fn release(self, reading: u32, task: TaskNo) -> Called
+    pub fn release(mut self, reading: u32, task: TaskNo) -> Called
         ensures { Gives self (Release reading task.0) result }
     {
         if !self.whole() {
@@ -163,7 +163,7 @@ impl Block {
     }
 
     // "done: the running job ends."
-    pub fn done(self, reading: u32, task: TaskNo) -> Called
+    pub fn done(mut self, reading: u32, task: TaskNo) -> Called
         ensures { Gives self (Done reading task.0) result }
     {
         if !self.whole() {
@@ -173,7 +173,7 @@ impl Block {
     }
 
     // "clock: nothing more."
-    pub fn clock(self, reading: u32) -> Called
+    pub fn clock(mut self, reading: u32) -> Called
         ensures { Gives self (Clock reading) result }
     {
         if !self.whole() {
