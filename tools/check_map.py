@@ -7,7 +7,7 @@ A mark of the map is a text in `..` of one of these forms. The crate may stand i
   specs/Clock                         a file
   specs/Clock.elapsed_of              a name that the file declares: a definition, a law, a data type, a record, a field, a constructor
   proofs/Cases#Elapsed 4294967290     a text that stands in the file
-  clock/src/lib.advance               a function, a struct, an enum or a constant of a file of code
+  clock/src/lib.advance               a function, a struct, an enum, a trait or a constant of a file of code
   must-fail/zero_moves                a must-fail edit
   tests/clock-end                     a case of tests/cases.txt
 Each mark must exist. And the map must be complete: every definition of a crate's specs/ (laws, the words, apart), every public function
@@ -25,7 +25,7 @@ MARK = re.compile(r"`(?:([a-z0-9_]+)/)?(specs|proofs|src|must-fail|tests)/([^`]+
 NAME = r"([^\s:(){}.;,]+)"
 DECLARES = re.compile(r"^\s*(?:(?:unfoldable|abbrev|pub|data|record) )*" + NAME + r"(?= |$)")
 DEFINES = re.compile(r"^ *(?:unfoldable |abbrev )?pub (?:record |data )?" + NAME + " ")
-ITEM = re.compile(r'^ *(?:pub )?(?:extern "C" )?(?:fn|struct|enum|const) (\w+)', re.M)
+ITEM = re.compile(r'^ *(?:pub )?(?:extern "C" )?(?:fn|struct|enum|const|trait) (\w+)', re.M)
 FUNCTION = re.compile(r'^ *(?:pub )?(?:extern "C" )?fn (\w+)\((?:[^{]|\n)*?-> [^{\n]+?(?: \{$|\n((?:.*\n)*?) *\{$)', re.M)
 # An impl of a trait: its methods have the trait's contracts.
 OF_TRAIT = re.compile(r"^impl[^\n]* for [^\n]*\{\n(?:.*\n)*?\}$", re.M)
@@ -33,7 +33,7 @@ OF_TRAIT = re.compile(r"^impl[^\n]* for [^\n]*\{\n(?:.*\n)*?\}$", re.M)
 # The same said again: of a state, of a block's fields and of a block; of the rules and of the block.
 AGAIN = {"Whole", "Demand1", "Demands"}
 # The rules' types that the code has too, under the same name.
-TWINS = {"Answer", "Call", "Found", "Job", "Last", "Margin", "Point", "Ready", "Record", "Refusal", "Task", "Verdict"}
+TWINS = {"Call", "Job", "Point", "Ready", "Record", "Refusal", "Task"}
 
 
 def lines(path):
