@@ -14,7 +14,8 @@ ghost use Rattle.jobs.specs.Kept.{last_in, released_in, levels_at, Dated, Levell
 use levels::{level_in, remaining};
 use table::{Level, MOST, PLACES, Table, TaskNo};
 
-// Whether the task's job is active, and when its last release was accepted, if there was one.
+// Whether the task's job is active, and when its last release was accepted, if there was one. (Both, and no enum of what may be: a block that
+// is handed in may hold an active job that was never released, and test 15 tells.)
 #[derive(Clone, Copy)]
 pub struct Job {
     pub active: bool,

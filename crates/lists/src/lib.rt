@@ -34,6 +34,8 @@ use table::{Level, PLACES, TaskNo};
 
 mod walk; // length_of, waiting, list_into, list_all
 
+// (Links by number in arrays of fixed size, as the paper has them: there is no heap. That they store lists is asked by each operation and is
+// no invariant of the type: the lists of a block that is handed in may hold anything, and test 15 tells.)
 #[derive(Clone, Copy)]
 pub struct Lists {
     first: [TaskNo; PLACES],

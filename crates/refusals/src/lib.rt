@@ -19,6 +19,7 @@ pub trait Refused {
         ensures { result ≡ given (value_of (means self)) };
 }
 
+// Numbers, as they are printed, and given over the C interface; inside, a refusal is a case of an enum.
 pub const TABLE_SIZE: u8 = 1;
 
 pub const OUT_OF_RANGE: u8 = 2;
