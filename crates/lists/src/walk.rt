@@ -1,4 +1,5 @@
-// Walks along the links (there is no slice to iterate over): they tell how long a list is and how many jobs wait, and write one list, or all, into a lent buffer.
+// Walks along the links (there is no slice to iterate over): they tell how long a list is and how many jobs wait, and write one list, or
+// all, into a lent buffer.
 ghost use Rattle.std.specs.Prelude.{◌≡◌, List, ℕ, length};
 ghost use Rattle.laws.specs.Words.{Puts};
 ghost use Rattle.rules.specs.State.{listing};
