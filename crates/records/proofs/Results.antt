@@ -5,10 +5,10 @@ use Rattle.std.specs.Borrow.{Bor}
 use Rattle.rules.specs.Calls as Calls
 use Rattle.rules.specs.Records as Rules
 use Rattle.kernel.specs.declared.Call.{Call}
+use Rattle.kernel.specs.Calls.{call_in}
 use Rattle.records.specs.declared.Record.{Record}
 use Rattle.records.specs.declared.Unreadable.{Unreadable}
 use Rattle.records.specs.declared.Reader.{Reader}
-use Rattle.kernel.specs.Calls.{call_in}
 use Rattle.records.specs.Read.{record_in, found_in}
 use Rattle.records.specs.Turns.{Turns}
 

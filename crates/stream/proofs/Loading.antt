@@ -21,7 +21,7 @@ use Rattle.table.specs.declared.Table.{Table}
 use Rattle.table.specs.declared.Task.{Task}
 use Rattle.table.specs.Stored.{task_of, no_entry, table_of}
 use Rattle.table.proofs.Tests.{table_length, table_is}
-use Rattle.records.specs.declared.Call.{Call}
+use Rattle.kernel.specs.declared.Call.{Call}
 use Rattle.records.specs.declared.Record.TheVariants as Record
 use Rattle.records.specs.declared.Unreadable.{Unreadable}
 use Rattle.records.specs.declared.Reader.{Reader}

@@ -5,7 +5,7 @@ use Rattle.rules.specs.Numbers.{longest, Verdict, Passed, Failed, Unreadable, Ta
 use Rattle.rules.specs.Records.{items_from, record_tests, stream_of}
 use Rattle.rules.proofs.Streams.{end_at, tests_end, tests_bad, tests_late, tests_task, tests_event}
 use Rattle.table.specs.declared.Task.{Task}
-use Rattle.records.specs.declared.Call.{Call}
+use Rattle.kernel.specs.declared.Call.{Call}
 use Rattle.records.specs.declared.Record.TheVariants as Record
 use Rattle.records.specs.declared.Unreadable as Error
 use Rattle.records.specs.declared.Reader.{Reader}
