@@ -1,11 +1,12 @@
 -- The line of an event; and the lines and totals of what is left. Assumes nothing.
 use mathlib.Core.Path.{◌≡◌, refl, sym, ap, ◌∙◌}
 use mathlib.Core.List.{List, [], ◌∷◌, ◌++◌, append_assoc, append-nil}
-use Prim.Native.Nat.{ℕ, suc, ◌+◌}
+use Prim.Native.Nat.{ℕ, suc, ◌+◌, ◌*◌}
 use native.Mathlib.Omega.{arith}
 use lib.ListN.{length}
+use Rattle.std.proofs.Common.{None, Ok, Err}
 use Rattle.laws.specs.Words.{sum}
-use Rattle.rules.specs.Numbers.{longest, number_of}
+use Rattle.rules.specs.Numbers.{number_of}
 use Rattle.rules.specs.Table.{Task}
 use Rattle.rules.specs.State.{State, waiting}
 use Rattle.rules.specs.Calls.{Call, moves_in, step_of}
@@ -13,27 +14,26 @@ use Rattle.rules.specs.Histories.{events_of, total_of, bound_of, bound_by}
 use Rattle.rules.specs.Lines.{task_in, line_of, event_lines}
 use Rattle.rules.specs.Text.{event_text, events_text}
 use Rattle.lists.specs.Answers.{who_in}
-use Rattle.kernel.specs.declared.Answer.TheVariants.{Accepted, Refused}
+use Rattle.kernel.specs.declared.Accepted.{Accepted}
 use Rattle.kernel.specs.declared.Called.{Called}
 use Rattle.kernel.specs.declared.Refusal.{Refusal}
 use Rattle.kernel.specs.Answers.{refusal_in}
-use Rattle.kernel.specs.Block.{view_of, Whole}
+use Rattle.kernel.specs.Block.{view_of}
 use Rattle.text.specs.declared.Text.{Text}
-use Rattle.text.specs.Writes.{HasRoom, Writes}
+use Rattle.text.specs.Writes.{Writes}
 use Rattle.text.proofs.Writes.{writes_none, writes_then, writes_as}
 use Rattle.lines.specs.Shown.{shown_as}
+use Rattle.lines.specs.Room.{event_room}
 use Rattle.run.specs.Run.{step_in}
-use Rattle.std.specs.Prelude.{None, Option}
-use Rattle.table.specs.declared.TaskNo.{TaskNo}
 
 -- ---- one E line
 
 module _ (n : ℕ) (r : Called) {running waits : ℕ} (runs : running ≡ task_in (who_in r.block.ready.running)) (wait : waits ≡ length (waiting (view_of r.block))) where
-  pub line_accepted : {x : Option TaskNo} {moves : ℕ} {margin : Option ℤ} → r.answer ≡ Accepted x moves margin
-      → shown_as (record { count = n; answer = 0; running = running; moves = moves; waiting = waits; margin = margin }) ≡ line_of n (step_in r)
+  pub line_accepted : {a : Accepted} → r.answer ≡ Ok a
+      → shown_as (record { count = n; answer = 0; running = running; moves = a.moves; waiting = waits; margin = a.margin }) ≡ line_of n (step_in r)
   line_accepted e = rw (e, runs, wait)
 
-  pub line_refused : {q : Refusal} {number : ℕ} → r.answer ≡ Refused q → number ≡ number_of (refusal_in q)
+  pub line_refused : {q : Refusal} {number : ℕ} → r.answer ≡ Err q → number ≡ number_of (refusal_in q)
       → shown_as (record { count = n; answer = number; running = running; moves = 0; waiting = waits; margin = None }) ≡ line_of n (step_in r)
   line_refused e number = rw (e, runs, wait, number)
 

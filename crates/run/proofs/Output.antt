@@ -7,7 +7,7 @@ use borrow.Author.Tests.{le-leb, lt-leb}
 use lib.ListN.{length}
 use Rattle.laws.specs.Words.{Puts}
 use Rattle.laws.proofs.Buffers.{puts_length}
-use Rattle.rules.specs.Numbers.{Refusal, longest, Verdict, Passed, Failed, first_of, number_in, given_with}
+use Rattle.rules.specs.Numbers.{Refusal, longest, Passed, Failed, first_of, number_of, value_of, given}
 use Rattle.rules.specs.Table.{Task, most, verdict_of}
 use Rattle.rules.specs.State.{State}
 use Rattle.rules.specs.Calls.{start_of}
@@ -55,20 +55,20 @@ module _ (s before : List ℕ) where
 module _ (s : List ℕ) where
   -- ---- X
 
-  refusal_text : (v : Verdict) (q : Refusal) → v ≡ Failed q → first_of (runner_tests s) ≡ Failed q → numbers_text 88 (number_in v) (given_with v) ≡ output_of s
-  refusal_text v q e f = ap (λ (x : Verdict). numbers_text 88 (number_in x) (given_with x)) e ∙ refusal_shown q ∙ sym (output_refused s q f)
+  refused_text : (q : Refusal) → first_of (runner_tests s) ≡ Failed q → numbers_text 88 (number_of q) (given (value_of q)) ≡ output_of s
+  refused_text q e = refusal_shown q ∙ sym (output_refused s q e)
 
   -- of a stream that is not readable
-  pub stream_refused : (v : Verdict) (q : Refusal) → v ≡ Failed q → v ≡ stream_of s → numbers_text 88 (number_in v) (given_with v) ≡ output_of s
-  stream_refused v q e f = refusal_text v q e (runner_refused s q (sym f ∙ e))
+  pub stream_refused : (q : Refusal) → stream_of s ≡ Failed q → numbers_text 88 (number_of q) (given (value_of q)) ≡ output_of s
+  stream_refused q e = refused_text q (runner_refused s q e)
 
   -- of one that is, from what start said of its table
   module _ (readable : stream_of s ≡ Passed) (stored : Table) (is : stored ≡ table_in (tasks_read s)) (r : Kernel.Started) (st : Starts stored 0 r) where
     said : verdict_in r.verdict ≡ verdict_of (tasks_read s)
     said = st.verdict ∙ ap (λ (t : Table). verdict_of (table_of t)) is ∙ table_verdict (tasks_read s)
 
-    pub table_refused : (q : Refusal) → verdict_in r.verdict ≡ Failed q → numbers_text 88 (number_in (verdict_in r.verdict)) (given_with (verdict_in r.verdict)) ≡ output_of s
-    table_refused q e = refusal_text (verdict_in r.verdict) q e (runner_table s readable ∙ sym said ∙ e)
+    pub table_refused : (q : Refusal) → verdict_in r.verdict ≡ Failed q → numbers_text 88 (number_of q) (given (value_of q)) ≡ output_of s
+    table_refused q e = refused_text q (runner_table s readable ∙ sym said ∙ e)
 
     pub table_sound : verdict_in r.verdict ≡ Passed → StartedBy s r.block
     table_sound e =

@@ -1,4 +1,4 @@
--- Two results that a contract allows are equal (of `call`: kernel/proofs/Results.gives_one). A progress is given back by value, so the
+-- Two results that a contract allows are equal. A progress is given back by value, so the
 -- arrays of its block are as long as their types say: that is the premise `Sizes`. Assumes nothing.
 use mathlib.Core.Path.{◌≡◌, sym, ap, ◌∙◌}
 use mathlib.Core.Bool.{Bool, true, false}
@@ -6,6 +6,7 @@ use mathlib.Core.List.{List}
 use Prim.Native.Nat.{ℕ}
 use lib.Dec.{leb}
 use lib.ListN.{length}
+use Rattle.std.proofs.Common.{ℤ, Option, None, Ok}
 use Rattle.laws.proofs.Buffers.{puts_one}
 use Rattle.rules.specs.Table.{is_task}
 use Rattle.rules.specs.Calls as Calls
@@ -13,7 +14,7 @@ use Rattle.rules.specs.Lines.{EventLine, line_of}
 use Rattle.rules.specs.State.{Nobody}
 use Rattle.table.specs.Stored.{table_of}
 use Rattle.jobs.specs.declared.Tasks.{Tasks}
-use Rattle.kernel.specs.declared.Answer.TheVariants as Answer
+use Rattle.kernel.specs.declared.Accepted.{Accepted}
 use Rattle.kernel.specs.declared.Block.{Block}
 use Rattle.kernel.specs.declared.Called.{Called}
 use Rattle.kernel.specs.Answers.{margin_in}
@@ -27,7 +28,6 @@ use Rattle.lines.specs.Shown.{shown_as}
 use Rattle.run.specs.declared.events.Progress.{Progress}
 use Rattle.run.specs.declared.events.Totals.{Totals}
 use Rattle.run.specs.Run.{room, RunsBy, Runs, step_in, Steps, Ends}
-use Rattle.std.specs.Prelude.{None, Option, Some}
 
 -- ---- run
 
@@ -44,8 +44,10 @@ runs_one s before r x after last = by_room (leb room (length before))
 -- a margin is told by what it says: of two answers that differ in nothing else
 margin_one : (a b : Option ℤ) → margin_in a ≡ margin_in b → a ≡ b
 margin_one a b e =
-    let same : Answer.Accepted None 0 a ≡ Answer.Accepted None 0 b = answer_one _ _ (ap (λ (g : Calls.Margin). Calls.Accepted Nobody 0 g) e) in
-    cc
+    let with : Option ℤ → Accepted = λ m. record { running = None; moves = 0; margin = m } in
+    let same : Ok (with a) ≡ Ok (with b) = answer_one _ _ (ap (λ (g : Calls.Margin). Calls.Accepted Nobody 0 g) e) in
+    let both : with a ≡ with b = cc in
+    ap (λ (x : Accepted). x.margin) both
 
 -- what is shown has the columns of one line
 pub columns_one : (r x : Shown) → shown_as x ≡ shown_as r → x ≡ r

@@ -20,8 +20,8 @@ ghost use Rattle.text.specs.Writes.{HasRoom, Writes};
 ghost use Rattle.run.specs.Run.{room, Runs, StartedBy};
 
 use events::events;
-use kernel::start::start;
 use kernel::Block;
+use kernel::start::start;
 use lines::{refusal_line, sum_line};
 use plans::plan_lines;
 use refusals::Refused;

@@ -4,7 +4,7 @@ use borrow.Author.Rules.{rules}
 use lib.ListN.{length}
 use Rattle.laws.proofs.Arrays.{long_map}
 use Rattle.rules.specs.Table.{most}
-use Rattle.records.specs.Read.{call_in}
+use Rattle.kernel.specs.Calls.{call_in}
 use Rattle.run.proofs.Steps.{does, boundable_whole, line_few, steps}
 use Rattle.run.proofs.events.event.Goals as goal
 use Rattle.run.proofs.events.event.Goals.{Start}

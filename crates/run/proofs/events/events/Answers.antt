@@ -5,33 +5,33 @@ use Rattle.run.proofs.events.events.Goals.{in-None, in-Some+in_default}
 
 pub loop-item-init : goal.loop-item-init
 loop-item-init c =
-    record { can = tt; ends = tt; along = along_start _ _ _ _ c.requires.0 _ (from_front c.into_iter-item-iterator.ensures.into_iter_gives c.new-item-items.ensures) }
+    record { can = tt; ends = tt; along = along_start _ _ _ c.requires.0 _ (from_front c.into_iter-item-iterator.ensures.into_iter_gives c.new-item-items.ensures) }
 
 pub event-now-requires : goal.event-now-requires
 event-now-requires c =
     let along = c.loop-item.invariant.along in (
-      along_begins _ _ _ _ _ _ _ along c.requires.1,
-      along_room _ _ _ _ _ _ _ along c.requires.1 _ _ _ (rw c.in-Ok.is at c.in-Some.ensures.steps) c.requires.2,
+      along_begins _ _ _ _ _ _ along c.requires.1,
+      along_room _ _ _ _ _ _ along c.requires.1 _ _ _ (rw c.in-Ok.is at c.in-Some.ensures.steps) c.requires.2,
     )
 
 pub loop-item-preserved-in-Event : goal.loop-item-preserved-in-Event
 loop-item-preserved-in-Event c = record {
   can = tt;
   ends = tt;
-  along = along_event _ _ _ _ _ _ _ c.loop-item.invariant.along _ _ _ (rw (c.in-Ok.is, c.in-Event.is) at c.in-Some.ensures.steps) _ _ c.event-now.ensures;
+  along = along_event _ _ _ _ _ _ c.loop-item.invariant.along _ _ _ (rw (c.in-Ok.is, c.in-Event.is) at c.in-Some.ensures.steps) _ _ c.event-now.ensures;
 }
 
 pub loop-item-preserved : goal.loop-item-preserved
 loop-item-preserved c = record {
   can = tt;
   ends = tt;
-  along = along_task _ _ _ _ _ _ _ c.loop-item.invariant.along _ _ _ (rw (c.in-Ok.is, c.in_default-record.is) at c.in-Some.ensures.steps);
+  along = along_task _ _ _ _ _ _ c.loop-item.invariant.along _ _ _ (rw (c.in-Ok.is, c.in_default-record.is) at c.in-Some.ensures.steps);
 }
 
 pub returns : goal.returns
 returns c =
     let along = c.loop-item.invariant.along in
     rw c.totals_of.ensures (elim c.match-next.branch [
-      | in-None w ↦ along_end _ _ _ _ _ _ _ along c.requires.1 _ w.in-None.ensures.steps
-      | in-Some+in_default w ↦ along_bad _ _ _ _ _ _ _ along c.requires.1 _ _ (rw w.in_default.is at w.in-Some.ensures.steps)
+      | in-None w ↦ along_end _ _ _ _ _ _ along c.requires.1 _ w.in-None.ensures.steps
+      | in-Some+in_default w ↦ along_bad _ _ _ _ _ _ along c.requires.1 _ _ (rw w.in_default.is at w.in-Some.ensures.steps)
     ])

@@ -10,10 +10,10 @@ use Rattle.run.proofs.events.shown.Goals.{After-waiting-waiting}
 counted : (c : After-waiting-waiting) → c.waiting-waiting.result ≡ length (waiting (view_of c.args.called.block))
 counted c = let s = c in c.waiting-waiting.ensures _ (lists_viewed s.args.called.block s.requires)
 
-pub returns-in-Accepted : goal.returns-in-Accepted
-returns-in-Accepted c = let w = c in let a = w.args in
-    line_accepted a.count a.called w.number-running.ensures (counted (goal.at.returns-in-Accepted c).After-waiting-waiting) c.in-Accepted.is
+pub returns-in-Ok : goal.returns-in-Ok
+returns-in-Ok c = let w = c in let a = w.args in
+    line_accepted a.count a.called w.task_number-running.ensures (counted (goal.at.returns-in-Ok c).After-waiting-waiting) c.in-Ok.is
 
-pub returns-in-Refused : goal.returns-in-Refused
-returns-in-Refused c = let w = c in let a = w.args in
-    line_refused a.count a.called w.number-running.ensures (counted (goal.at.returns-in-Refused c).After-waiting-waiting) c.in-Refused.is c.number.ensures
+pub returns-in-Err : goal.returns-in-Err
+returns-in-Err c = let w = c in let a = w.args in
+    line_refused a.count a.called w.task_number-running.ensures (counted (goal.at.returns-in-Err c).After-waiting-waiting) c.in-Err.is c.number.ensures
