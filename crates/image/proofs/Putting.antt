@@ -1,4 +1,4 @@
--- Bytes put into a lent buffer: a number, an array. Assumes nothing.
+-- Bytes put into a lent buffer: how many a number has, and those of an array. Assumes nothing.
 use mathlib.Core.Path.{◌≡◌, refl, sym, ap, ◌∙◌}
 use mathlib.Core.List.{List, [], ◌∷◌, ◌++◌, append_assoc, append-nil}
 use Prim.Native.Nat.{ℕ, zero, suc, ◌+◌, ◌*◌, ◌/◌, ◌<◌}
@@ -11,14 +11,10 @@ use Rattle.laws.specs.Words.{Puts}
 use Rattle.laws.proofs.Buffers.{puts_behind, puts_to, puts_as}
 use Rattle.image.specs.Bytes.{little, all_bytes}
 
--- ---- a number, from its lowest byte up
-
 pub little_length : (k n : ℕ) → length (little k n) ≡ k
 unfolding little
 little_length zero n = refl
 little_length (suc k) n = ap suc (little_length k (n / 256))
-
--- ---- an array, from its front on
 
 module _ {X : Type 0} (bytes : X → List ℕ) where
   all_bytes_append : (xs ys : List X) → all_bytes bytes (xs ++ ys) ≡ all_bytes bytes xs ++ all_bytes bytes ys

@@ -1,5 +1,5 @@
-use native.Mathlib.Omega.{arith}
 use mathlib.Core.Path.{refl}
+use native.Mathlib.Omega.{arith}
 use Rattle.image.proofs.Putting.{none_put, next_put, all_put}
 use Rattle.image.proofs.part.put_all.Goals as goal
 
