@@ -5,6 +5,7 @@ use mathlib.Core.List.{List, [], ◌++◌}
 use Prim.Native.Nat.{ℕ, suc, ◌+◌}
 use lib.Dec.{eqb}
 use lib.ListN.{length}
+use Rattle.std.specs.Prelude.{Option, None, Some}
 use Rattle.laws.specs.Words.{digit}
 use Rattle.rules.specs.Table.{most}
 use Rattle.table.specs.declared.Task.{Task}
@@ -19,7 +20,6 @@ use Rattle.image.specs.Bytes.{task_from, tasks_from, last_from, job_from, who_fr
 use Rattle.image.specs.Bytes.{TaskFits, TasksFit, LastFits, JobFits, WhoFits, TaskNoFits, StoredFits, Fits}
 use Rattle.image.proofs.Putting.{little_length}
 use Rattle.image.proofs.Standing.{Stands, stands_between, Codec, then, array, word_codec, long_word_codec}
-use Rattle.std.specs.Prelude.{None, Option, Some}
 
 -- ---- the parts
 

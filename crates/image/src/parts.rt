@@ -122,7 +122,7 @@ impl Part for Job {
     fn take(bytes: &[u8], at: usize) -> Job {
         Job {
             active: bool::take(bytes, at),
-            last: Option::take(bytes, at + 1),
+            last: Part::take(bytes, at + 1),
         }
     }
 }
@@ -197,7 +197,7 @@ impl Part for Ready {
     }
 
     fn take(bytes: &[u8], at: usize) -> Ready {
-        let running = Option::take(bytes, at);
+        let running = Part::take(bytes, at);
         let lists = Lists::from(Stored::take(bytes, at + 2));
         Ready { running, lists }
     }
