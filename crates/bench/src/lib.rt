@@ -48,8 +48,8 @@ fn call_whole(block: Block, call: Call) -> Called
 
 // So many calls on the block that the bytes say, each made by `make`; 0 where they are no whole block.
 fn sum_of<F: Fn(Block, Call) -> Called>(make: F, block: &[u8], call: Call, times: u32) -> u64
-    requires { (b : Block) → Whole b → F.pre make (b, call) }
-    requires { (b : Block) (r : Called) → Whole b → F.post make (b, call) r → Does b (call_in call) r }
+    requires takes { (b : Block) → Whole b → F.pre make b call }
+    requires does { (b : Block) (r : Called) → Whole b → F.post make b call r → Does b (call_in call) r }
     ensures { Sums block.now (call_in call) times result }
 {
     if block.len() != BLOCK_BYTES {
