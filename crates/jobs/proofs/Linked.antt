@@ -6,10 +6,10 @@ use prog.Linked.{Tree, World, Holds, in_world}
 use prog.LinkedThreads.{HasT}
 use Rattle.levels.proofs.Linked as levels
 use Rattle.jobs.proofs.TheLink as link
-use Rattle.jobs.proofs.deadline.Symbol as deadline'
+use Rattle.jobs.proofs.moment.Moment.deadline.Symbol as deadline'
 use Rattle.jobs.proofs.in_table.Symbol as in_table'
-use Rattle.jobs.proofs.level_of.Symbol as level_of'
-use Rattle.jobs.proofs.time_left.Symbol as time_left'
+use Rattle.jobs.proofs.moment.Moment.level_of.Symbol as level_of'
+use Rattle.jobs.proofs.moment.Moment.time_left.Symbol as time_left'
 use Rattle.jobs.proofs.time_of.Symbol as time_of'
 
 abbrev pub functions : Tree
@@ -26,16 +26,16 @@ below W i =
     (levels.level_in W i.1, (levels.remaining W i.1, tt))
 
 pub deadline : Found deadline'.code
-deadline W i = link.linked-jobs::deadline W i.0 (below W i)
+deadline W i = link.linked-jobs::moment::Moment::deadline W i.0 (below W i)
 
 pub in_table : Found in_table'.code
 in_table W i = link.linked-jobs::in_table W i.0 (below W i)
 
 pub level_of : Found level_of'.code
-level_of W i = link.linked-jobs::level_of W i.0 (below W i)
+level_of W i = link.linked-jobs::moment::Moment::level_of W i.0 (below W i)
 
 pub time_left : Found time_left'.code
-time_left W i = link.linked-jobs::time_left W i.0 (below W i)
+time_left W i = link.linked-jobs::moment::Moment::time_left W i.0 (below W i)
 
 pub time_of : Found time_of'.code
 time_of W i = link.linked-jobs::time_of W i.0 (below W i)

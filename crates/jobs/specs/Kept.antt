@@ -9,6 +9,7 @@ use Rattle.table.specs.declared.Table.{Table}
 use Rattle.table.specs.Stored.{table_of}
 use Rattle.levels.specs.Copy.{CopyOf}
 use Rattle.jobs.specs.declared.Job.{Job}
+use Rattle.jobs.specs.declared.moment.Moment.{Moment}
 use Rattle.jobs.specs.declared.Tasks.{Tasks}
 
 -- "a task's last accepted release": never, or a time
@@ -33,6 +34,13 @@ active_in table jobs k = is_task (table_of table) k && (job_at jobs k).active
 -- the level at a time of each task's job
 abbrev pub levels_at : Tasks → List Job → ℕ → ℕ → ℕ
 levels_at tasks jobs time = Rules.levels_of (table_of tasks.table) (released_in tasks.table jobs) time
+
+-- the same of what is kept, and the deadlines
+abbrev pub levels_in : Moment → ℕ → ℕ
+levels_in m = levels_at m.tasks m.jobs m.time
+
+abbrev pub deadlines_in : Moment → ℕ → ℕ
+deadlines_in m = Rules.deadline_of (table_of m.tasks.table) (released_in m.tasks.table m.jobs)
 
 -- ---- what is asked
 

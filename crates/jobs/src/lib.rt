@@ -7,12 +7,15 @@
 ghost use Rattle.std.specs.Prelude.{◌≡◌, ◌&&◌, ◌≤◌, leb};
 ghost use Rattle.rules.specs.Levels.{remaining_of};
 ghost use Rattle.rules.specs.Clock.{last_tick};
-ghost use Rattle.rules.specs.State.{time_of, deadline_of};
-ghost use Rattle.table.specs.Stored.{table_of};
-ghost use Rattle.jobs.specs.Kept.{last_in, released_in, levels_at, Dated, Levelled};
+ghost use Rattle.rules.specs.State.{time_of};
+ghost use Rattle.jobs.specs.Kept.{last_in, deadlines_in, levels_in, Dated, Levelled};
 
 use levels::{level_in, remaining};
-use table::{Level, MOST, PLACES, Table, TaskNo};
+use table::{Level, MOST, Table, TaskNo};
+
+mod moment; // Moment
+
+pub use moment::Moment;
 
 // Whether the task's job is active, and when its last release was accepted, if there was one. (Both, and no enum of what may be: a block that
 // is handed in may hold an active job that was never released, and test 15 tells.)
@@ -46,28 +49,30 @@ pub fn time_of(last: Option<u64>) -> u64
     }
 }
 
-// "A job released at time r has absolute deadline r + D"
-pub fn deadline(table: Table, jobs: [Job; PLACES], task: TaskNo) -> u64
-    requires { Dated table jobs task.0 }
-    ensures { result ≡ deadline_of (table_of table) (released_in table jobs) task.0 }
-{
-    let k = task.0 as usize;
-    time_of(jobs[k].last) + table.tasks[k - 1].d as u64
-}
+impl Moment {
+    // "A job released at time r has absolute deadline r + D"
+    pub fn deadline(&self, task: TaskNo) -> u64
+        requires { Dated self.now.tasks.table self.now.jobs task.0 }
+        ensures { result ≡ deadlines_in self.now task.0 }
+    {
+        let k = task.0 as usize;
+        time_of(self.jobs[k].last) + self.tasks.table.tasks[k - 1].d as u64
+    }
 
-// The time that remains to the deadline of the task's job.
-pub fn time_left(table: Table, jobs: [Job; PLACES], time: u64, task: TaskNo) -> i64
-    requires { Dated table jobs task.0 × (time ≤ last_tick) }
-    ensures { result ≡ remaining_of (deadline_of (table_of table) (released_in table jobs) task.0) time }
-{
-    remaining(deadline(table, jobs, task), time)
-}
+    // The time that remains to the deadline of the task's job.
+    pub fn time_left(&self, task: TaskNo) -> i64
+        requires { Dated self.now.tasks.table self.now.jobs task.0 × (self.now.time ≤ last_tick) }
+        ensures { result ≡ remaining_of (deadlines_in self.now task.0) self.now.time }
+    {
+        remaining(self.deadline(task), self.time)
+    }
 
-// The level of the task's job at this time.
-pub fn level_of(tasks: Tasks, jobs: [Job; PLACES], time: u64, task: TaskNo) -> Level
-    requires { Levelled tasks jobs time task.0 }
-    ensures { result.0 ≡ levels_at tasks jobs time task.0 }
-{
-    let left = time_left(tasks.table, jobs, time, task);
-    level_in(tasks.table.count, &tasks.rising, left)
+    // The level of the task's job.
+    pub fn level_of(&self, task: TaskNo) -> Level
+        requires { Levelled self.now.tasks self.now.jobs self.now.time task.0 }
+        ensures { result.0 ≡ levels_in self.now task.0 }
+    {
+        let left = self.time_left(task);
+        level_in(self.tasks.table.count, &self.tasks.rising, left)
+    }
 }
