@@ -18,14 +18,14 @@ ghost use Rattle.std.specs.Prelude.{List, ℕ};
 ghost use Rattle.rules.specs.Calls.{to_front, met_by, enter, leave};
 ghost use Rattle.lists.specs.Links.{Stores};
 ghost use Rattle.lists.specs.Answers.{MayEnter};
-ghost use Rattle.jobs.specs.Kept.{levels_at};
+ghost use Rattle.jobs.specs.Kept.{levels_in};
 ghost use Rattle.ready.specs.Promote.{Promotable};
 ghost use Rattle.ready.specs.Keep.{Keeping, Keeps, Becomes, Relevels, Enterable};
 
-use jobs::{Job, Tasks, level_of};
+use jobs::Moment;
 use lists::Lists;
 use promotion::promote;
-use table::{Level, PLACES, TaskNo};
+use table::{Level, TaskNo};
 
 mod promotion; // promote
 
@@ -67,11 +67,11 @@ fn meet(lists: Lists, task: TaskNo, level: Level, other: TaskNo, held: Level) ->
 
 impl Ready {
     // "puts every waiting job in the list of its new level", its level at this time.
-    pub fn relevel(self, tasks: Tasks, jobs: [Job; PLACES], time: u64) -> Promoted<Ready>
-        requires { Promotable tasks jobs time self.lists }
-        ensures { Relevels (levels_at tasks jobs time) self result }
+    pub fn relevel(self, moment: &Moment) -> Promoted<Ready>
+        requires { Promotable moment.now.tasks moment.now.jobs moment.now.time self.lists }
+        ensures { Relevels (levels_in moment.now) self result }
     {
-        let Promoted { now: lists, moves } = promote(tasks, jobs, time, self.lists);
+        let Promoted { now: lists, moves } = promote(moment, self.lists);
         let ready = Ready {
             running: self.running,
             lists,
@@ -81,9 +81,9 @@ impl Ready {
 
     // "If nothing runs, it runs. If its level is lower than the running job's level at this time, it runs and the former goes to the
     // front of the list of its level. Otherwise it goes to the end of the list of its own level."
-    pub fn enter(self, tasks: Tasks, jobs: [Job; PLACES], time: u64, task: TaskNo) -> Ready
-        requires { Enterable self tasks jobs time task.0 }
-        ensures { Becomes self (enter (levels_at tasks jobs time) task.0) result }
+    pub fn enter(self, moment: &Moment, task: TaskNo) -> Ready
+        requires { Enterable self moment.now.tasks moment.now.jobs moment.now.time task.0 }
+        ensures { Becomes self (enter (levels_in moment.now) task.0) result }
     {
         match self.running {
             None => Ready {
@@ -91,8 +91,8 @@ impl Ready {
                 lists: self.lists,
             },
             Some(other) => {
-                let level = level_of(tasks, jobs, time, task);
-                let held = level_of(tasks, jobs, time, other);
+                let level = moment.level_of(task);
+                let held = moment.level_of(other);
                 meet(self.lists, task, level, other, held)
             }
         }

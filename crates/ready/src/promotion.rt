@@ -2,13 +2,13 @@
 // deadlines would land in front.
 ghost use Rattle.std.specs.Prelude.{◌≡◌, List, ℕ};
 ghost use Rattle.lists.specs.Links.{Stores};
-ghost use Rattle.jobs.specs.Kept.{levels_at};
+ghost use Rattle.jobs.specs.Kept.{levels_in};
 ghost use Rattle.ready.specs.Promote.{goes_to, front_goes, Leaves, Promotable, Drainable, DrainedTo, PromotedTo};
 
-use jobs::{Job, Tasks, time_left};
+use jobs::Moment;
 use levels::{has_left, level_in};
 use lists::Lists;
-use table::{Level, MOST, PLACES, TaskNo};
+use table::{Level, MOST, TaskNo};
 
 // No list holds more jobs than there are tasks.
 const JOBS: u32 = MOST as u32;
@@ -20,56 +20,38 @@ pub struct Promoted<T> {
 }
 
 // The level that the job of this task, which waits at this level, leaves it for; nothing where it stays.
-fn next_of(
-    tasks: Tasks,
-    jobs: [Job; PLACES],
-    time: u64,
-    level: Level,
-    task: TaskNo,
-) -> Option<Level>
-    requires { Leaves tasks jobs time level.0 task.0 }
-    ensures { result ≡ goes_to level.0 (levels_at tasks jobs time task.0) }
+fn next_of(moment: &Moment, level: Level, task: TaskNo) -> Option<Level>
+    requires { Leaves moment.now.tasks moment.now.jobs moment.now.time level.0 task.0 }
+    ensures { result ≡ goes_to level.0 (levels_in moment.now task.0) }
 {
-    let table = tasks.table;
-    let left = time_left(table, jobs, time, task);
+    let left = moment.time_left(task);
+    let tasks = &moment.tasks;
     if !has_left(&tasks.rising, level, left) {
         return None;
     }
-    Some(level_in(table.count, &tasks.rising, left))
+    Some(level_in(tasks.table.count, &tasks.rising, left))
 }
 
 // The same for the front job of the level's list, where there is one.
-fn front_next(
-    tasks: Tasks,
-    jobs: [Job; PLACES],
-    time: u64,
-    lists: Lists,
-    level: Level,
-) -> Option<Level>
-    requires { Drainable tasks jobs time lists level.0 }
-    ensures { (ls : ℕ → List ℕ) → Stores lists ls → result ≡ front_goes (levels_at tasks jobs time) level.0 (ls level.0) }
+fn front_next(moment: &Moment, lists: Lists, level: Level) -> Option<Level>
+    requires { Drainable moment.now.tasks moment.now.jobs moment.now.time lists level.0 }
+    ensures { (ls : ℕ → List ℕ) → Stores lists ls → result ≡ front_goes (levels_in moment.now) level.0 (ls level.0) }
 {
     match lists.front(level) {
         None => None,
-        Some(task) => next_of(tasks, jobs, time, level, task),
+        Some(task) => next_of(moment, level, task),
     }
 }
 
 // The front jobs of the level's list go to the ends of the lists of their new levels, up to the first that stays.
-fn drain(
-    tasks: Tasks,
-    jobs: [Job; PLACES],
-    time: u64,
-    lists: Lists,
-    level: Level,
-) -> Promoted<Lists>
-    requires { Drainable tasks jobs time lists level.0 }
-    ensures { (ls : ℕ → List ℕ) → Stores lists ls → DrainedTo (levels_at tasks jobs time) level.0 ls result }
+fn drain(moment: &Moment, lists: Lists, level: Level) -> Promoted<Lists>
+    requires { Drainable moment.now.tasks moment.now.jobs moment.now.time lists level.0 }
+    ensures { (ls : ℕ → List ℕ) → Stores lists ls → DrainedTo (levels_in moment.now) level.0 ls result }
 {
     let mut now = lists;
     let mut moves: u32 = 0;
     while moves < JOBS {
-        match front_next(tasks, jobs, time, now, level) {
+        match front_next(moment, now, level) {
             None => {
                 return Promoted { now, moves };
             }
@@ -83,9 +65,9 @@ fn drain(
 }
 
 // Every waiting job goes to the list of its new level.
-pub fn promote(tasks: Tasks, jobs: [Job; PLACES], time: u64, lists: Lists) -> Promoted<Lists>
-    requires { Promotable tasks jobs time lists }
-    ensures { (ls : ℕ → List ℕ) → Stores lists ls → PromotedTo (levels_at tasks jobs time) ls result }
+pub fn promote(moment: &Moment, lists: Lists) -> Promoted<Lists>
+    requires { Promotable moment.now.tasks moment.now.jobs moment.now.time lists }
+    ensures { (ls : ℕ → List ℕ) → Stores lists ls → PromotedTo (levels_in moment.now) ls result }
 {
     let mut now = lists;
     let mut total: u32 = 0;
@@ -99,7 +81,7 @@ pub fn promote(tasks: Tasks, jobs: [Job; PLACES], time: u64, lists: Lists) -> Pr
                 let Promoted {
                     now: drained,
                     moves,
-                } = drain(tasks, jobs, time, now, level);
+                } = drain(moment, now, level);
                 now = drained;
                 total += moves;
                 from = level.0 + 1;

@@ -1,4 +1,4 @@
-use Rattle.jobs.specs.Kept.{levels_at}
+use Rattle.jobs.specs.Kept.{levels_in}
 use Rattle.ready.proofs.Runners.{waits_enters, runner_waits, enters_alone, enters_meets}
 use Rattle.ready.proofs.Ready.enter.Goals as goal
 
@@ -12,9 +12,9 @@ meet-requires c = let p = c.requires in (
 )
 
 pub returns-in-None : goal.returns-in-None
-returns-in-None c = enters_alone (levels_at c.args.tasks c.args.jobs c.args.time) _ c.in-None.is
+returns-in-None c = enters_alone (levels_in c.args.moment.now) _ c.in-None.is
 
 pub returns-in-Some : goal.returns-in-Some
 returns-in-Some c = let a = c.args in
-    enters_meets (levels_at a.tasks a.jobs a.time) a.task _ _ _ c.meet.result c.in-Some.is
+    enters_meets (levels_in a.moment.now) a.task _ _ _ c.meet.result c.in-Some.is
     c.level_of-level.ensures c.level_of-held.ensures c.meet.ensures

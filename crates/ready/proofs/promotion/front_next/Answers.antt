@@ -1,4 +1,4 @@
-use Rattle.jobs.specs.Kept.{levels_at}
+use Rattle.jobs.specs.Kept.{levels_in}
 use Rattle.ready.proofs.Fronts.{front_leaves, nobody_stays, one_goes}
 use Rattle.ready.proofs.promotion.front_next.Goals as goal
 
@@ -9,10 +9,10 @@ next_of-requires c = let p = c.requires in
 pub returns-in-None : goal.returns-in-None
 returns-in-None c = λ ls st.
     let a = c.args in
-    nobody_stays (levels_at a.tasks a.jobs a.time) a.level.0 (ls a.level.0) c.in-None.is (c.front.ensures ls st)
+    nobody_stays (levels_in a.moment.now) a.level.0 (ls a.level.0) c.in-None.is (c.front.ensures ls st)
 
 pub returns-in-Some : goal.returns-in-Some
 returns-in-Some c = λ ls st.
     let a = c.args in
-    one_goes (levels_at a.tasks a.jobs a.time) a.level.0 _ (ls a.level.0) c.in-Some.is
+    one_goes (levels_in a.moment.now) a.level.0 _ (ls a.level.0) c.in-Some.is
     (c.front.ensures ls st) c.next_of.ensures

@@ -16,9 +16,9 @@ returns-in-None c = promoting_stops c.loop-from.invariant c.lowest_from.ensures 
 pub drain-moves-requires : goal.drain-moves-requires
 drain-moves-requires c = promoting_drains c.loop-from.invariant c.lowest_from.ensures _ c.in-Some.is
 
-turned : (c : After-drain-moves) → let a = c in
-    Promoting a.args.tasks a.args.jobs a.args.time a.args.lists c.drain-moves.result.now
-    (a.loop-from.total + c.drain-moves.result.moves) (c.in-Some.level.0 + 1)
+turned : (c : After-drain-moves) → let m = c.args.moment.now in
+    Promoting m.tasks m.jobs m.time c.args.lists c.drain-moves.result.now
+    (c.loop-from.total + c.drain-moves.result.moves) (c.in-Some.level.0 + 1)
 turned c =
     promoting_turns c.loop-from.invariant c.lowest_from.ensures _ c.in-Some.is
     c.drain-moves.result c.drain-moves.ensures
