@@ -10,7 +10,7 @@ use lib.Dec.{ltb}
 use lib.ListN.{length}
 use Rattle.laws.specs.Words.{pick, In, put}
 use Rattle.laws.proofs.Bools.{clash}
-use Rattle.rules.specs.State.{Nobody, One}
+use Rattle.rules.specs.State.{One}
 use Rattle.rules.specs.Calls.{to_end, front_of}
 use Rattle.rules.specs.Promotion.{drained, leaving}
 use Rattle.table.specs.declared.Level.{Level}
@@ -26,9 +26,6 @@ use Rattle.std.specs.Prelude.{None, Option, Some}
 -- ---- told by whether it has left its level
 
 module _ (l to : ℕ) {left : Bool} (told : left ≡ ltb to l) where
-  pub not_left_stays : left ≡ false → None ≡ goes_to l to
-  not_left_stays f = let e : ltb to l ≡ false = sym told ∙ f in rw e
-
   pub left_goes : (level : Level) → left ≡ true → level.0 ≡ to → Some level ≡ goes_to l to
   left_goes level t e = let g : ltb to l ≡ true = sym told ∙ t in rw g (ap (λ (i : ℕ). Some (record { 0 = i })) e)
 
@@ -46,20 +43,6 @@ front_leaves {tasks} {jobs} {time} {s} {l} d k e said = go (d.all.ls l) refl (ap
         record { known = d.all.known l k.0 m; low = d.low; high = d.all.high l k.0 m }
 
 module _ (new : ℕ → ℕ) (l : ℕ) where
-  pub nobody_stays : {who : Option TaskNo} (q : List ℕ) → who ≡ None → who_in who ≡ front_of q → None ≡ front_goes new l q
-  nobody_stays q e said = go q (ap who_in (sym e) ∙ said)
-    where
-      go : (q : List ℕ) → Nobody ≡ front_of q → None ≡ front_goes new l q
-      go [] f = refl
-      go (x ∷ q) f = clash cc
-
-  pub one_goes : {who : Option TaskNo} {r : Option Level} (k : TaskNo) (q : List ℕ) → who ≡ Some k → who_in who ≡ front_of q → r ≡ goes_to l (new k.0) → r ≡ front_goes new l q
-  one_goes {who} {r} k q e said answer = go q (ap who_in (sym e) ∙ said)
-    where
-      go : (q : List ℕ) → One k.0 ≡ front_of q → r ≡ front_goes new l q
-      go [] f = clash cc
-      go (x ∷ q) f = let same : k.0 ≡ x = cc in answer ∙ ap (λ (y : ℕ). goes_to l (new y)) same
-
   -- ---- one that stays: the list is drained
 
   pub stays_drained : (q : List ℕ) → None ≡ front_goes new l q → (lists : ℕ → List ℕ) → (drained new l lists q ≡ lists) × (leaving new l q ≡ 0)

@@ -10,7 +10,7 @@ use Rattle.rules.specs.Promotion.{drained, promoted, leaving, leaving_by}
 use Rattle.table.specs.declared.Level.{Level}
 use Rattle.lists.specs.declared.Lists.{Lists}
 use Rattle.lists.specs.Links.{Stores}
-use Rattle.lists.specs.Answers.{occupied_at, HoldsAt}
+use Rattle.lists.specs.Answers.{occupied_at}
 use Rattle.lists.proofs.Few.{list_few}
 use Rattle.jobs.specs.declared.Job.{Job}
 use Rattle.jobs.specs.declared.Tasks.{Tasks}
@@ -77,9 +77,6 @@ pub record PromotesTo (new : ℕ → ℕ) (ls : ℕ → List ℕ) (now : Lists) 
   pub same : promoted new (suc most - l) l lists ≡ promoted new (most - 1) 2 ls
   pub left : moves + leaving_by new (suc most - l) l lists ≡ leaving_by new (most - 1) 2 ls
 
-promotes_starts : {new : ℕ → ℕ} {s : Lists} (ls : ℕ → List ℕ) → Stores s ls → PromotesTo new ls s 0 2
-promotes_starts ls st = record { lists = ls; stores = st; same = refl; left = omega arith }
-
 module _ {new : ℕ → ℕ} {ls : ℕ → List ℕ} {now : Lists} {moves l : ℕ} (w : PromotesTo new ls now moves l) where
   ended : (promoted new (suc most - l) l w.lists ≡ w.lists) × (leaving_by new (suc most - l) l w.lists ≡ 0)
       → PromotedTo new ls (record { now = now; moves = moves })
@@ -120,18 +117,12 @@ pub record Promoting (tasks : Tasks) (jobs : List Job) (time : ℕ) (before now 
   pub few : moves ≤ most * l
   pub target : (ls : ℕ → List ℕ) → Stores before ls → PromotesTo (levels_at tasks jobs time) ls now moves l
 
-pub promoting_starts : {tasks : Tasks} {jobs : List Job} {time : ℕ} {s : Lists} → Promotable tasks jobs time s → Promoting tasks jobs time s s 0 2
-promoting_starts able = record { able = able; low = omega arith; high = omega arith; few = omega arith; target = promotes_starts }
-
 module _ {tasks : Tasks} {jobs : List Job} {time : ℕ} {before now : Lists} {moves l : ℕ} (w : Promoting tasks jobs time before now moves l) where
   abbrev new : ℕ → ℕ
   new = levels_at tasks jobs time
 
   pub promoting_ends : most < l → (ls : ℕ → List ℕ) → Stores before ls → PromotedTo (levels_at tasks jobs time) ls (record { now = now; moves = moves })
   promoting_ends h ls st = promotes_ends (w.target ls st) h
-
-  pub promoting_asks : l ≤ most → HoldsAt now l
-  promoting_asks h = record { lists = w.able.ls; stores = w.able.stores; level = record { low = omega (arith, w.low); high = h } }
 
   module _ {r : Option Level} (said : (ls : ℕ → List ℕ) → Stores now ls → r ≡ occupied_at (lowest ls (suc most - l) l)) where
     pub promoting_stops : r ≡ None → (ls : ℕ → List ℕ) → Stores before ls → PromotedTo (levels_at tasks jobs time) ls (record { now = now; moves = moves })

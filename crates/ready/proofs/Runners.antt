@@ -1,15 +1,13 @@
 -- A job enters and meets the running one, or leaves. Assumes nothing.
 use mathlib.Core.Path.{◌≡◌, refl, sym, ap, ◌∙◌}
 use mathlib.Core.List.{List}
-use Prim.Native.Nat.{ℕ, zero, suc, ◌≤◌, ◌<◌}
+use Prim.Native.Nat.{ℕ, zero, suc, ◌≤◌}
 use native.Mathlib.Omega.{arith}
-use borrow.Author.Tests.{lt-ltb, le-ltb}
 use lib.ListN.{length}
 use Rattle.laws.specs.Words.{behind, put}
 use Rattle.laws.proofs.Bools.{both_le}
 use Rattle.rules.specs.Table.{most}
-use Rattle.rules.specs.State as Rules
-use Rattle.rules.specs.Calls.{to_front, to_end, met_by, enter, front_of, lowest, leave_by, leave}
+use Rattle.rules.specs.Calls.{front_of, lowest, leave_by, leave}
 use Rattle.rules.proofs.Tables.{passed_to_3}
 use Rattle.table.specs.declared.Level.{Level}
 use Rattle.table.specs.declared.TaskNo.{TaskNo}
@@ -22,20 +20,11 @@ use Rattle.jobs.specs.declared.Job.{Job}
 use Rattle.jobs.specs.declared.Tasks.{Tasks}
 use Rattle.jobs.specs.Kept.{levels_at}
 use Rattle.ready.specs.declared.Ready.{Ready}
-use Rattle.ready.specs.Keep.{Keeps, Keeping, Becomes, MayWait, Enterable}
+use Rattle.ready.specs.Keep.{Keeping, Becomes, MayWait, Enterable}
 use Rattle.jobs.proofs.Keeping.{levels_low}
 use Rattle.lists.proofs.LowestLevel.{found_at, nothing_from, level_from}
 use Rattle.lists.proofs.Together.{lowest_levels}
 use Rattle.std.specs.Prelude.{None, Option, Some}
-
--- ---- meeting the running job
-
-module _ (task : TaskNo) (l : ℕ) (other : TaskNo) (h : ℕ) (ls : ℕ → List ℕ) {s : Lists} where
-  pub met_lower : l < h → Stores s (to_front ls h other.0) → Keeps (record { running = Some task; lists = s }) (met_by task.0 l other.0 h ls)
-  met_lower b st = rw (lt-ltb l h b) (record { running = refl; stores = st })
-
-  pub met_higher : h ≤ l → Stores s (to_end ls l task.0) → Keeps (record { running = Some other; lists = s }) (met_by task.0 l other.0 h ls)
-  met_higher b st = rw (le-ltb l h b) (record { running = refl; stores = st })
 
 -- ---- entering
 
@@ -55,18 +44,6 @@ module _ {tasks : Tasks} {jobs : List Job} {time : ℕ} where
   -- the running job may wait
   pub runner_waits : {r : Ready} {k : ℕ} (may : Enterable r tasks jobs time k) (other : TaskNo) → r.running ≡ Some other → MayWait tasks jobs time may.ready.lists other.0
   runner_waits may other e = may.runner other.0 (sym may.keeps.running ∙ ap who_in e)
-
-module _ (level : ℕ → ℕ) {r : Ready} (task : TaskNo) where
-  pub enters_alone : r.running ≡ None → Becomes r (enter level task.0) (record { running = Some task; lists = r.lists })
-  enters_alone e x keeps =
-      let nobody : x.running ≡ Rules.Nobody = sym keeps.running ∙ ap who_in e in
-      rw nobody (record { running = refl; stores = keeps.stores })
-
-  pub enters_meets : (other : TaskNo) (l h : ℕ) (met : Ready) → r.running ≡ Some other → l ≡ level task.0 → h ≡ level other.0
-      → ((ls : ℕ → List ℕ) → Stores r.lists ls → Keeps met (met_by task.0 l other.0 h ls)) → Becomes r (enter level task.0) met
-  enters_meets other l h met e a b meets x keeps =
-      let one : x.running ≡ Rules.One other.0 = sym keeps.running ∙ ap who_in e in
-      rw (one, ← a, ← b) (meets x.lists keeps.stores)
 
 -- ---- leaving
 

@@ -6,18 +6,12 @@ use Rattle.ready.proofs.promotion.drain.Goals as goal
 pub loop-moves-init : goal.loop-moves-init
 loop-moves-init c = draining_starts c.requires
 
-pub front_next-requires : goal.front_next-requires
-front_next-requires c = c.loop-moves.invariant.able
-
 pub returns-in-None : goal.returns-in-None
 returns-in-None c = draining_ends c.loop-moves.invariant c.front_next.ensures c.in-None.is
 
 pub move_front-now-requires : goal.move_front-now-requires
 move_front-now-requires c = let b = c in
     (search rules, omega (arith, draining_level b.loop-moves.invariant b.front_next.ensures _ c.in-Some.is))
-
-pub loop-moves-smaller : goal.loop-moves-smaller
-loop-moves-smaller c = omega (arith, c.loop-moves-test.true)
 
 pub loop-moves-preserved : goal.loop-moves-preserved
 loop-moves-preserved c = let b = c in

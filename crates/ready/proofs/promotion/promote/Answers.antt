@@ -1,14 +1,8 @@
 use Prim.Native.Nat.{◌+◌}
 use native.Mathlib.Omega.{arith}
-use Rattle.ready.proofs.Promoting.{Promoting, promoting_starts, promoting_ends, promoting_asks, promoting_stops, promoting_level, promoting_drains, promoting_turns}
+use Rattle.ready.proofs.Promoting.{Promoting, promoting_ends, promoting_stops, promoting_level, promoting_drains, promoting_turns}
 use Rattle.ready.proofs.promotion.promote.Goals as goal
 use Rattle.ready.proofs.promotion.promote.Goals.{After-drain-moves}
-
-pub loop-from-init : goal.loop-from-init
-loop-from-init c = promoting_starts c.requires
-
-pub lowest_from-requires : goal.lowest_from-requires
-lowest_from-requires c = promoting_asks c.loop-from.invariant (omega arith)
 
 pub returns-in-None : goal.returns-in-None
 returns-in-None c = promoting_stops c.loop-from.invariant c.lowest_from.ensures c.in-None.is
