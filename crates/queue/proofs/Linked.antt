@@ -7,7 +7,7 @@ use prog.LinkedThreads.{HasT}
 use Rattle.jobs.proofs.Linked as jobs
 use Rattle.queue.proofs.TheLink as link
 use Rattle.queue.proofs.active_as.Symbol as active_as'
-use Rattle.queue.proofs.runs_whole.Symbol as runs_whole'
+use Rattle.queue.proofs.Row.runs_whole.Symbol as runs_whole'
 
 abbrev pub functions : Tree
 functions = link.table
@@ -20,10 +20,10 @@ Found c = (W : World) → In W → HasT (in_world W) true c
 
 below : (W : World) → In W → link.Below W
 below W i =
-    (jobs.deadline W i.1, (jobs.in_table W i.1, (jobs.level_of W i.1, (jobs.time_of W i.1, tt))))
+    (jobs.in_table W i.1, (jobs.deadline W i.1, (jobs.level_of W i.1, (jobs.time_of W i.1, tt))))
 
 pub active_as : Found active_as'.code
 active_as W i = link.linked-queue::active_as W i.0 (below W i)
 
 pub runs_whole : Found runs_whole'.code
-runs_whole W i = link.linked-queue::runs_whole W i.0 (below W i)
+runs_whole W i = link.linked-queue::Row::runs_whole W i.0 (below W i)

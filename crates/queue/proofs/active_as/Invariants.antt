@@ -5,7 +5,8 @@ use Rattle.jobs.specs.Kept.{job_at}
 use Rattle.queue.proofs.active_as.Given as goal
 
 abbrev pub invariant-loop-k : goal.invariant-loop-k
-invariant-loop-k l = (1 ≤ l.k) × (l.k ≤ l.count + 1) × ((j : ℕ) → j < l.k → 1 ≤ j → (job_at l.jobs j).active ≡ seen_at l.seen j)
+invariant-loop-k l =
+    (1 ≤ l.k) × (l.k ≤ l.moment.tasks.table.count + 1) × ((j : ℕ) → j < l.k → 1 ≤ j → (job_at l.moment.jobs j).active ≡ seen_at l.seen j)
 
 abbrev pub decreases-loop-k : goal.decreases-loop-k
 decreases-loop-k l = l.k-end - l.k
