@@ -5,41 +5,25 @@ use mathlib.Core.List.{List, [], ◌∷◌}
 use Prim.Native.Nat.{ℕ, zero, suc, ◌+◌, ◌≤◌}
 use native.Mathlib.Numerals.{add-one}
 use native.Mathlib.Omega.{arith}
-use borrow.Author.Tests.{ltb-true, leb-true, eqb-true, lt-ltb, le-leb, eq-eqb}
-use lib.Dec.{eqb, leb, ltb}
+use borrow.Author.Tests.{eqb-true, eq-eqb}
+use lib.Dec.{eqb}
 use lib.ListN.{length, set}
 use Rattle.laws.specs.Words.{Decides}
 use Rattle.laws.proofs.Bools.{test_decides}
 use Rattle.rules.specs.Table.{most, is_task}
-use Rattle.rules.specs.State.{time_of, deadline_of, MayLead}
 use Rattle.table.specs.declared.Table.{Table}
 use Rattle.table.specs.Stored.{table_of}
 use Rattle.lists.specs.Marks.{marked}
 use Rattle.lists.proofs.Marks.{marked_append}
 use Rattle.jobs.specs.declared.Job.{Job}
 use Rattle.jobs.specs.declared.Tasks.{Tasks}
-use Rattle.jobs.specs.Kept.{last_in, job_at, released_in, levels_at, Dated, Levelled}
-use Rattle.jobs.proofs.Keeping.{dated_time, dated_task}
+use Rattle.jobs.specs.Kept.{levels_at, Levelled}
+use Rattle.jobs.proofs.Keeping.{dated_task}
 use Rattle.queue.specs.Asked.{Datable}
 use Rattle.queue.specs.Row.{byte_task, row_tasks, WaitsRight, AllWait, in_row, RowDated}
 use Rattle.queue.proofs.Dates.{datable_dated}
 
 -- ---- who may stand where
-
-module _ {table : Table} {jobs : List Job} {a b : ℕ} (p : Dated table jobs a) (q : Dated table jobs b) {x y : ℕ}
-    (ahead : x ≡ deadline_of (table_of table) (released_in table jobs) a) (behind : y ≡ deadline_of (table_of table) (released_in table jobs) b) where
-  pub apart_decides : (x ≡ y → ⊥) → Decides (ltb x y) (MayLead (table_of table) (released_in table jobs) a b)
-  apart_decides d =
-      test_decides (MayLead (table_of table) (released_in table jobs) a b) (ltb x y)
-      (λ t. let l = ltb-true x y t in record { deadline = omega arith; release = λ e. let no : ⊥ = omega arith in absurd no })
-      (λ m. lt-ltb x y (omega (arith, m.deadline)))
-
-  pub equal_decides : x ≡ y → {s t : ℕ} → s ≡ time_of (last_in (job_at jobs a).last) → t ≡ time_of (last_in (job_at jobs b).last)
-      → Decides (leb s t) (MayLead (table_of table) (released_in table jobs) a b)
-  equal_decides e {s} {t} u v =
-      test_decides (MayLead (table_of table) (released_in table jobs) a b) (leb s t)
-      (λ h. let l = leb-true s t h in record { deadline = omega arith; release = λ g. omega (arith, dated_time p, dated_time q) })
-      (λ m. le-leb s t (omega (arith, m.release (omega arith), dated_time p, dated_time q)))
 
 pub place_decides : {tasks : Tasks} {jobs : List Job} {clock first k : ℕ} → Levelled tasks jobs clock k → (k ≡ first → ⊥) → (r l : ℕ)
     → r ≡ levels_at tasks jobs clock k → Decides (eqb r l) (WaitsRight tasks jobs clock first l k)

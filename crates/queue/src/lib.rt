@@ -64,7 +64,8 @@ impl Row {
         if !in_table(moment.tasks.table.count, task) {
             return false;
         }
-        if task.0 == self.first.0 {
+        let first = self.first;
+        if task.0 == first.0 {
             return false;
         }
         let right = moment.level_of(task);

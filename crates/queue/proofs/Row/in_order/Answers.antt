@@ -9,14 +9,6 @@ pub may_lead-requires : goal.may_lead-requires
 may_lead-requires c = let i = c.loop-i.i in
     (rw c.loop-i.invariant.1 at (c.requires i (omega arith)), c.requires (suc i) (omega arith))
 
-pub returns-then-not-may_lead : goal.returns-then-not-may_lead
-returns-then-not-may_lead c = λ w.
-    let now = c.loop-i in
-    c.if-not-may_lead.ensures (rw now.invariant.1 at (w now.i (omega arith)))
-
 pub loop-i-preserved : goal.loop-i-preserved
 loop-i-preserved c = let now = c.loop-i in
     (search rules, rw (add-one now.i), below_more _ _ now.invariant.2 (rw now.invariant.1 c.if-not-may_lead.ensures))
-
-pub returns : goal.returns
-returns c = λ i h. c.loop-i.invariant.2 i (omega arith)

@@ -7,9 +7,6 @@ use Rattle.queue.specs.Row.{row_tasks}
 use Rattle.queue.proofs.Rows.{marked_next}
 use Rattle.queue.proofs.Row.marks.Goals as goal
 
-pub bounds-seen-self : goal.bounds-seen-self
-bounds-seen-self c = omega (arith, c.requires 0 (omega arith))
-
 pub loop-i-init : goal.loop-i-init
 unfolding marked row_tasks
 loop-i-init c = (search rules, refl)

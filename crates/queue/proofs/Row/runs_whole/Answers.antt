@@ -20,14 +20,8 @@ dated c = row_dated c.args.self.now.bytes c.requires (task (goal.at.in_order-req
 pub returns-then-not-in_table : goal.returns-then-not-in_table
 returns-then-not-in_table c = let m = c.args.moment.now in λ w. not_task m.tasks.table m.sized _ (sym c.if-not-in_table.ensures) w.task
 
-pub returns-then-not-all_wait : goal.returns-then-not-all_wait
-returns-then-not-all_wait c = λ w. c.if-not-all_wait.ensures w.wait
-
 pub in_order-requires : goal.in_order-requires
 in_order-requires c = dated c
-
-pub returns-then-not-in_order : goal.returns-then-not-in_order
-returns-then-not-in_order c = λ w. c.if-not-in_order.ensures w.order
 
 pub marks-requires : goal.marks-requires
 marks-requires c = row_low _ _ c.args.moment.now.sized (dated (goal.at.marks-requires c).Else-not-all_wait)

@@ -15,4 +15,4 @@ pub level_of-right-requires : goal.level_of-right-requires
 level_of-right-requires c = levelled (goal.at.level_of-right-requires c).Else-not-in_table
 
 pub returns : goal.returns
-returns c = place_decides (levelled (goal.at.returns c).Else-not-in_table) c.if-task-self.false _ _ c.level_of-right.ensures
+returns c = place_decides (levelled (goal.at.returns c).Else-not-in_table) c.if-task-first.false _ _ c.level_of-right.ensures
