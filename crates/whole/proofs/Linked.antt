@@ -29,7 +29,7 @@ Found c = (W : World) → In W → HasT (in_world W) true c
 
 below : (W : World) → In W → link.Below W
 below W i =
-    (levels.agrees W i.2.1.1, (lists.list_all W i.1, (lists.stored_from W i.1, (queue.active_as W i.2, (queue.runs_whole W i.2, (stored.holds_lists W i.3, (table.tests_to_3 W i.4, tt)))))))
+    (levels.agrees W i.2.1.1, (lists.list_all W i.1, (lists.stored_from W i.1, (queue.runs_whole W i.2, (queue.active_as W i.2, (stored.holds_lists W i.3, (table.tests_to_3 W i.4, tt)))))))
 
 pub is_whole : Found is_whole'.code
 is_whole W i = link.linked-whole::is_whole W i.0 (below W i)

@@ -19,38 +19,38 @@ ghost use Rattle.whole.specs.Whole.{Whole};
 ghost use Rattle.whole.specs.Parts.{dated_by, Tested};
 
 use clock::LAST_TICK;
-use jobs::{Job, Tasks};
+use jobs::{Job, Moment};
 use levels::agrees;
 use lists::Stored;
-use queue::{LISTING_BYTES, active_as, runs_whole};
+use queue::{LISTING_BYTES, Row, active_as};
 use ready::Ready;
 use stored::holds_lists;
-use table::{PLACES, Table, tests_to_3};
+use table::{PLACES, tests_to_3};
 
-// "A block is whole when"
-pub fn is_whole(tasks: Tasks, jobs: [Job; PLACES], ready: Ready, clock: u64) -> bool
-    ensures { Decides result (Whole tasks jobs ready clock) }
+// "A block is whole when": of its tasks, its jobs and its clock as a moment.
+pub fn is_whole(moment: &Moment, ready: Ready) -> bool
+    ensures { Decides result (Whole moment.now.tasks moment.now.jobs ready moment.now.time) }
 {
-    if !tasks_whole(tasks) {
+    if !tasks_whole(moment) {
         return false;
     }
-    if LAST_TICK < clock {
+    if LAST_TICK < moment.time {
         return false;
     }
-    let table = tasks.table;
-    if !jobs_whole(table, jobs, clock) {
+    if !jobs_whole(moment) {
         return false;
     }
     if !holds_lists(Stored::from(ready.lists)) {
         return false;
     }
-    queue_whole(tasks, jobs, ready, clock)
+    queue_whole(moment, ready)
 }
 
 // "its table passes tests 1 to 3; its rising copy of the deadlines agrees with the table"
-fn tasks_whole(tasks: Tasks) -> bool
-    ensures { Decides result (TasksWhole tasks) }
+fn tasks_whole(moment: &Moment) -> bool
+    ensures { Decides result (TasksWhole moment.now.tasks) }
 {
+    let tasks = &moment.tasks;
     match tests_to_3(tasks.table) {
         Ok(()) => agrees(tasks.table, tasks.rising),
         Err(_) => false,
@@ -58,13 +58,13 @@ fn tasks_whole(tasks: Tasks) -> bool
 }
 
 // "every active job has a release time, and no release time lies after the clock"
-fn jobs_whole(table: Table, jobs: [Job; PLACES], clock: u64) -> bool
-    requires { table.count ≤ most }
-    ensures { Decides result (JobsWhole table jobs clock) }
+fn jobs_whole(moment: &Moment) -> bool
+    requires { moment.now.tasks.table.count ≤ most }
+    ensures { Decides result (JobsWhole moment.now.tasks.table moment.now.jobs moment.now.time) }
 {
-    let held = &jobs[1..table.count + 1];
+    let held = &moment.jobs[1..moment.tasks.table.count + 1];
     for job in held {
-        if !is_dated(*job, clock) {
+        if !is_dated(*job, moment.time) {
             return false;
         }
     }
@@ -83,9 +83,9 @@ fn is_dated(job: Job, clock: u64) -> bool
 
 // Whether the block is whole, where the rest has been tested: exactly the active jobs run or wait, each once, where and in the order that
 // they should.
-fn queue_whole(tasks: Tasks, jobs: [Job; PLACES], ready: Ready, clock: u64) -> bool
-    requires { Tested tasks jobs ready clock }
-    ensures { Decides result (Whole tasks jobs ready clock) }
+fn queue_whole(moment: &Moment, ready: Ready) -> bool
+    requires { Tested moment.now.tasks moment.now.jobs ready moment.now.time }
+    ensures { Decides result (Whole moment.now.tasks moment.now.jobs ready moment.now.time) }
 {
     let mut bytes = [0u8; LISTING_BYTES];
     let end = ready.lists.list_all(&mut bytes);
@@ -94,8 +94,15 @@ fn queue_whole(tasks: Tasks, jobs: [Job; PLACES], ready: Ready, clock: u64) -> b
             if end != 0 {
                 return false; // "nobody runs only if nobody waits"
             }
-            active_as(tasks.table.count, jobs, [false; PLACES])
+            active_as(moment, &[false; PLACES])
         }
-        Some(first) => runs_whole(tasks, jobs, clock, first, bytes, end / 2),
+        Some(first) => {
+            let row = Row {
+                first,
+                bytes,
+                n: end / 2,
+            };
+            row.runs_whole(moment)
+        }
     }
 }

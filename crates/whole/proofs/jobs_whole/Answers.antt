@@ -4,10 +4,8 @@ use native.Mathlib.Omega.{arith}
 use Prim.Native.Nat.{ℕ, zero, suc, ◌+◌, ◌-◌, ◌<◌, ◌≤◌}
 use mathlib.Core.List.{List}
 use borrow.Author.Rules.{rules}
-use lib.ListN.{length, take, drop, get_or}
-use Rattle.laws.proofs.Arrays.{long_map}
+use lib.ListN.{take, drop, get_or}
 use Rattle.laws.proofs.Bools.{true_false}
-use Rattle.rules.specs.Table.{most}
 use Rattle.std.proofs.lemmas.List.{get_or-take, get_or-drop}
 use Rattle.jobs.specs.declared.Job.{Job}
 use Rattle.jobs.specs.Kept.{last_in, no_job, job_at}
@@ -16,20 +14,18 @@ use Rattle.whole.proofs.Dates.{dated_whole, whole_dated}
 use Rattle.whole.proofs.jobs_whole.Goals as goal
 use Rattle.whole.proofs.jobs_whole.Goals.{Start}
 
-long : (c : Start) → length c.args.table.tasks ≡ most
-long c = search (rules, long_map)
-
 -- the place behind place 0, i further
 behind : (n : ℕ) (jobs : List Job) (i : ℕ) → i < n → get_or (take n (drop 1 jobs)) i no_job ≡ job_at jobs (suc i)
 behind n jobs i h = get_or-take n (drop 1 jobs) i no_job h ∙ get_or-drop 1 jobs i no_job ∙ ap (job_at jobs) (let e : 1 + i ≡ suc i = omega arith in e)
 
 pub returns-then-not-is_dated : goal.returns-then-not-is_dated
 returns-then-not-is_dated c = λ w.
-    let a = c.args in
-    let here : c.loop-job.job-index < a.table.count = search rules in
-    let e = behind (a.table.count + 1 - 1) a.jobs c.loop-job.job-index (omega arith) in
-    true_false _ (whole_dated (long (goal.at.returns-then-not-is_dated c).Start) w (suc c.loop-job.job-index) (omega arith) (omega arith))
-    (subst (λ (j : Job). dated_by j.active (last_in j.last) a.clock ≡ false) e (sym (c.if-not-is_dated.ensures)))
+    let m = c.args.moment.now in
+    let i = c.loop-job.job-index in
+    let here : i < m.tasks.table.count = search rules in
+    let e = behind (m.tasks.table.count + 1 - 1) m.jobs i (omega arith) in
+    true_false _ (whole_dated m.sized w (suc i) (omega arith) (omega arith))
+    (subst (λ (j : Job). dated_by j.active (last_in j.last) m.time ≡ false) e (sym (c.if-not-is_dated.ensures)))
 
 -- each place from 1 on, where each behind place 0 is told
 each : (P : ℕ → Type 0) (n : ℕ) → ((i : ℕ) → i < n → P (suc i)) → (k : ℕ) → 1 ≤ k → k ≤ n → P k
@@ -38,5 +34,6 @@ each P n h (suc i) low high = h i (omega arith)
 
 pub returns : goal.returns
 returns c =
-    let all : c.loop-job.job-index ≡ c.args.table.count = search rules in
-    dated_whole (long (goal.at.returns c).Start) (each _ c.args.table.count (λ i h. c.loop-job.invariant i (omega arith)))
+    let m = c.args.moment.now in
+    let all : c.loop-job.job-index ≡ m.tasks.table.count = search rules in
+    dated_whole m.sized (each _ m.tasks.table.count (λ i h. c.loop-job.invariant i (omega arith)))
