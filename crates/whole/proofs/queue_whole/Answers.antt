@@ -37,9 +37,6 @@ active_as-requires c = few_passed _ c.args.moment.now.sized c.requires.datable.t
 pub invariant_of-row : goal.invariant_of-row
 invariant_of-row c = record { few = (read (goal.at.invariant_of-row c).After-list_all-end).few }
 
-pub runs_whole-requires : goal.runs_whole-requires
-runs_whole-requires c = c.requires.datable
-
 pub returns-else-end-ne0 : goal.returns-else-end-ne0
 returns-else-end-ne0 c =
     let run = ap who_in c.in-None.is in
