@@ -6,7 +6,7 @@ ghost use Rattle.kernel.specs.Block.{Whole};
 ghost use Rattle.kernel.specs.Calls.{Goes, Does, refused_as, accepted_as};
 
 use super::{Accepted, Block, Called, Now, Refusal};
-use jobs::{Job, time_left};
+use jobs::Job;
 use ready::{Promoted, Ready};
 use table::TaskNo;
 
@@ -59,16 +59,19 @@ impl Block {
         requires { Goes self (Release reading task.0) time }
         ensures { Does self (Release reading task.0) result }
     {
+        let mut moment = self.at(time);
         let Promoted {
             now: waiting,
             moves,
-        } = self.ready.relevel(self.tasks, self.jobs, time);
+        } = self.ready.relevel(&moment);
         let k = task.0 as usize;
-        self.jobs[k] = Job {
+        moment.jobs[k] = Job {
             active: true,
             last: Some(time),
         };
-        let after = waiting.enter(self.tasks, self.jobs, time, task);
+        let after = waiting.enter(&moment, task);
+        let jobs = moment.jobs; // an array is stored from a variable
+        self.jobs = jobs;
         self.accepted(after, time, reading, moves, None)
     }
 
@@ -77,11 +80,12 @@ impl Block {
         requires { Goes self (Done reading task.0) time }
         ensures { Does self (Done reading task.0) result }
     {
-        let margin = time_left(self.tasks.table, self.jobs, time, task);
+        let moment = self.at(time);
+        let margin = moment.time_left(task);
         let Promoted {
             now: waiting,
             moves,
-        } = self.ready.relevel(self.tasks, self.jobs, time);
+        } = self.ready.relevel(&moment);
         let k = task.0 as usize;
         let job = self.jobs[k];
         self.jobs[k] = Job {
@@ -97,7 +101,7 @@ impl Block {
         requires { Goes self (Clock reading) time }
         ensures { Does self (Clock reading) result }
     {
-        let Promoted { now: after, moves } = self.ready.relevel(self.tasks, self.jobs, time);
+        let Promoted { now: after, moves } = self.ready.relevel(&self.at(time));
         self.accepted(after, time, reading, moves, None)
     }
 

@@ -32,7 +32,7 @@ ghost use Rattle.kernel.specs.Answers.{refusal_in};
 ghost use Rattle.kernel.specs.Calls.{call_in, Gives};
 
 use clock::ClockRefusal;
-use jobs::{Job, Tasks};
+use jobs::{Job, Moment, Tasks};
 use ready::Ready;
 use refusals::Refused;
 use table::PLACES;
@@ -134,11 +134,23 @@ pub struct Called {
 }
 
 impl Block {
+    // The tasks and jobs of the block at a time, for those who are lent a moment.
+    fn at(self, time: u64) -> Moment
+        ensures { (result.tasks ≡ self.tasks) × (result.jobs ≡ self.jobs) × (result.time ≡ time) }
+    {
+        let jobs = self.jobs; // an array is stored from a variable
+        Moment {
+            tasks: self.tasks,
+            jobs,
+            time,
+        }
+    }
+
     // Whether the block is whole, whatever it holds.
     pub fn whole(self) -> bool
         ensures { Decides result (Whole self) }
     {
-        is_whole(self.tasks, self.jobs, self.ready, self.now.clock)
+        is_whole(&self.at(self.now.clock), self.ready)
     }
 
     // The call, whichever it is.

@@ -12,7 +12,6 @@ use Rattle.jobs.specs.Kept.{last_in, no_job, job_at}
 use Rattle.whole.specs.Parts.{dated_by}
 use Rattle.whole.proofs.Dates.{dated_whole, whole_dated}
 use Rattle.whole.proofs.jobs_whole.Goals as goal
-use Rattle.whole.proofs.jobs_whole.Goals.{Start}
 
 -- the place behind place 0, i further
 behind : (n : ℕ) (jobs : List Job) (i : ℕ) → i < n → get_or (take n (drop 1 jobs)) i no_job ≡ job_at jobs (suc i)

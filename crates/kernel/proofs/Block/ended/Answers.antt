@@ -9,33 +9,37 @@ use Rattle.kernel.proofs.Commits.{ticks, promotable, releveled_moves, releveled_
 use Rattle.kernel.proofs.Block.ended.Goals as goal
 use Rattle.kernel.proofs.Block.ended.Goals.{Start}
 
-tasks : (c : Start) → length c.args.self.tasks.table.tasks ≡ most
-tasks c = search (rules, long_map)
-
-jobs : (c : Start) → length c.args.self.jobs ≡ suc most
-jobs c = search (rules, long_map)
+long : (c : Start) → length c.args.self.jobs ≡ suc most
+long c = search (rules, long_map)
 
 pub time_left-margin-requires : goal.time_left-margin-requires
-time_left-margin-requires c = running_dated c.requires
+time_left-margin-requires c = let e = c.at-moment.ensures in rw (e.0, e.1, e.2) (running_dated c.requires)
 
 pub relevel-moves-requires : goal.relevel-moves-requires
-relevel-moves-requires c = let a = c in promotable a.requires (tasks (goal.at.relevel-moves-requires c).Start) _ (search (rules, ticks a.requires))
+relevel-moves-requires c =
+    let e = c.at-moment.ensures in
+    rw (e.0, e.1, e.2) (promotable c.requires (rw e.0 at c.at-moment.result.sized) _ (search (rules, ticks c.requires)))
 
 pub bounds-self-k : goal.bounds-self-k
-bounds-self-k c = let a = c in omega (arith, place a.requires (jobs (goal.at.bounds-self-k c).Start) a.args.task.0 (running_task a.requires), jobs (goal.at.bounds-self-k c).Start)
+bounds-self-k c =
+    let all = long (goal.at.bounds-self-k c).Start in
+    omega (arith, place c.requires all c.args.task.0 (running_task c.requires), all)
 
 pub bounds-self-k-2 : goal.bounds-self-k-2
-bounds-self-k-2 c = let a = c in omega (arith, place a.requires (jobs (goal.at.bounds-self-k-2 c).Start) a.args.task.0 (running_task a.requires), jobs (goal.at.bounds-self-k-2 c).Start)
+bounds-self-k-2 c =
+    let all = long (goal.at.bounds-self-k-2 c).Start in
+    omega (arith, place c.requires all c.args.task.0 (running_task c.requires), all)
 
 pub leave-after-requires : goal.leave-after-requires
-leave-after-requires c = let a = c in
+leave-after-requires c =
+    let e = c.at-moment.ensures in
     let x = c.relevel-moves in
-    record { ready = _; keeps = releveled_keeps a.requires x.result x.ensures }
+    record { ready = _; keeps = releveled_keeps c.requires x.result (rw (e.0, e.1, e.2) at x.ensures) }
 
 pub returns : goal.returns
-returns c = let a = c in
+returns c =
+    let e = c.at-moment.ensures in
     let x = c.relevel-moves in
-    let t = c.time_left-margin in
-    let l = c.leave-after in
-    ended_does a.requires (jobs (goal.at.returns c).Start) _ (margin_held a.requires t.result t.ensures) _ (releveled_moves a.requires x.result x.ensures) l.result
-    (l.ensures _ (releveled_keeps a.requires x.result x.ensures)) c.accepted.ensures
+    let done = rw (e.0, e.1, e.2) at x.ensures in
+    ended_does c.requires (long (goal.at.returns c).Start) _ (margin_held c.requires c.time_left-margin.result (rw (e.0, e.1, e.2) at c.time_left-margin.ensures))
+    _ (releveled_moves c.requires x.result done) c.leave-after.result (c.leave-after.ensures _ (releveled_keeps c.requires x.result done)) c.accepted.ensures

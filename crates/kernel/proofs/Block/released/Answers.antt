@@ -9,25 +9,31 @@ use Rattle.kernel.proofs.Commits.{ticks, promotable, releveled_moves, releveled_
 use Rattle.kernel.proofs.Block.released.Goals as goal
 use Rattle.kernel.proofs.Block.released.Goals.{Start}
 
-tasks : (c : Start) → length c.args.self.tasks.table.tasks ≡ most
-tasks c = search (rules, long_map)
-
-jobs : (c : Start) → length c.args.self.jobs ≡ suc most
-jobs c = search (rules, long_map)
+long : (c : Start) → length c.args.self.jobs ≡ suc most
+long c = search (rules, long_map)
 
 pub relevel-moves-requires : goal.relevel-moves-requires
-relevel-moves-requires c = let a = c in promotable a.requires (tasks (goal.at.relevel-moves-requires c).Start) _ (search (rules, ticks a.requires))
+relevel-moves-requires c =
+    let e = c.at-moment.ensures in
+    rw (e.0, e.1, e.2) (promotable c.requires (rw e.0 at c.at-moment.result.sized) _ (search (rules, ticks c.requires)))
 
-pub bounds-self-k : goal.bounds-self-k
-bounds-self-k c = let a = c in omega (arith, place a.requires (jobs (goal.at.bounds-self-k c).Start) a.args.task.0 (released_task a.requires), jobs (goal.at.bounds-self-k c).Start)
+pub bounds-moment-k : goal.bounds-moment-k
+bounds-moment-k c =
+    let all = long (goal.at.bounds-moment-k c).Start in
+    omega (arith, place c.requires all c.args.task.0 (released_task c.requires), all)
 
 pub enter-after-requires : goal.enter-after-requires
-enter-after-requires c = let a = c in
+enter-after-requires c =
+    let e = c.at-moment.ensures in
     let x = c.relevel-moves in
-    enterable a.requires (jobs (goal.at.enter-after-requires c).Start) (tasks (goal.at.enter-after-requires c).Start) (releveled_keeps a.requires x.result x.ensures)
+    let done = rw (e.0, e.1, e.2) at x.ensures in
+    rw (e.0, e.1, e.2) (enterable c.requires (long (goal.at.enter-after-requires c).Start) (rw e.0 at c.at-moment.result.sized) (releveled_keeps c.requires x.result done))
 
 pub returns : goal.returns
-returns c = let a = c in
+returns c =
+    let e = c.at-moment.ensures in
     let x = c.relevel-moves in
-    let e = c.enter-after in
-    begun_does a.requires (jobs (goal.at.returns c).Start) (tasks (goal.at.returns c).Start) _ (releveled_moves a.requires x.result x.ensures) e.result (e.ensures _ (releveled_keeps a.requires x.result x.ensures)) c.accepted.ensures
+    let done = rw (e.0, e.1, e.2) at x.ensures in
+    let enters = rw (e.0, e.1, e.2) at (c.enter-after.ensures _ (releveled_keeps c.requires x.result done)) in
+    begun_does c.requires (long (goal.at.returns c).Start) (rw e.0 at c.at-moment.result.sized) _ (releveled_moves c.requires x.result done) c.enter-after.result enters
+    (rw e.1 at c.accepted.ensures)
