@@ -1,5 +1,4 @@
 -- Laws of the doors for other languages.
-pub mod Margins
 pub mod Typed
 pub mod Doors
 pub mod Plans

@@ -1,9 +1,5 @@
 -- Two results that a contract allows are equal: answers, and every byte that was lent. Assumes nothing.
-use mathlib.Core.Path.{◌≡◌, sym, ap, ap₂, subst, ◌∙◌}
-use mathlib.Core.Bool.{Bool, true, false}
-use mathlib.Core.List.{List}
-use Prim.Native.Nat.{ℕ}
-use lib.ListN.{length}
+use Rattle.std.proofs.Common.{◌≡◌, ℕ, Bool, true, false, List, Result, length, sym, ap, ap₂, subst, ◌∙◌}
 use Rattle.laws.specs.Words.{digit, written}
 use Rattle.laws.proofs.Bools.{decides_one}
 use Rattle.laws.proofs.Buffers.{puts_one}
@@ -13,7 +9,7 @@ use Rattle.rules.specs.Records.{runner_tests, tasks_read}
 use Rattle.stream.specs.Load.{table_in}
 use Rattle.kernel.specs.declared.Called.{Called}
 use Rattle.kernel.specs.declared.start.Started.{Started}
-use Rattle.kernel.specs.declared.asks.Listed.{Listed}
+use Rattle.kernel.specs.declared.Refusal.{Refusal}
 use Rattle.kernel.specs.Block.{Whole}
 use Rattle.kernel.specs.Answers.{answer_in}
 use Rattle.kernel.specs.Asks.{listed_in}
@@ -72,7 +68,7 @@ lists_one bytes before r after x last = go (is_block bytes)
     go : (w : Bool) → TellsListingBy bytes before r after w → TellsListingBy bytes before x last w → (x ≡ r) × (last ≡ after)
     go true p q =
         let same = listing_one (block_in bytes) before p.0 q.0 after last p.1 q.1 in
-        (q.2 ∙ ap₂ (λ (l : Listed) (buffer : List ℕ). number_by (listed_in l buffer).waiting (listed_in l buffer).verdict) same.0 same.1 ∙ sym p.2, same.1)
+        (q.2 ∙ ap₂ (λ (l : Result ℕ Refusal) (buffer : List ℕ). number_by (listed_in l buffer).waiting (listed_in l buffer).verdict) same.0 same.1 ∙ sym p.2, same.1)
     go false p q = (q.0 ∙ sym p.0, q.1 ∙ sym p.1)
 
 pub plans_one : (bytes : List ℕ) (k : ℕ) (before : List ℕ) (r : ℕ) (after : List ℕ) (x : ℕ) (last : List ℕ) → TellsPlan bytes k before r after → TellsPlan bytes k before x last → (x ≡ r) × (last ≡ after)

@@ -11,10 +11,12 @@
 // A refusal writes nothing: not one byte of the block, the answer, the buffer or the points.
 #![tactic(auto)]
 
-ghost use Rattle.std.specs.Prelude.{◌≡◌, ◌≤◌};
+ghost use Rattle.std.specs.Prelude.{◌≡◌, ◌≤◌, ◌+◌, ◌*◌};
+ghost use Rattle.rules.specs.Numbers.{longest, number_of, value_of, given};
 ghost use Rattle.rules.specs.Table.{most};
 ghost use Rattle.rules.specs.Calls.{Release, Done, Clock};
 ghost use Rattle.kernel.specs.Answers.{margin_in};
+ghost use Rattle.kernel.specs.Calls.{call_in};
 ghost use Rattle.levels.specs.Copy.{points_in};
 ghost use Rattle.run.specs.Run.{Runs};
 ghost use Rattle.export.specs.Door.{kind_of, ticks_of, BlockSized, Answers, TellsStart, TellsListing, PlanPut, TellsPlan, Tells, TellsWhole};
@@ -33,6 +35,14 @@ pub fn meter_run(stream: &[u8], out: &mut [u8]) -> usize
     run(stream, out)
 }
 
+// The number of a refusal of a stream or its table, and 256 times the task or offset with it.
+fn told<R: Refused + Copy>(refusal: R) -> usize
+    requires { given (value_of (R.means refusal)) ≤ longest }
+    ensures { result ≡ number_of (R.means refusal) + 256 * given (value_of (R.means refusal)) }
+{
+    refusal.number() as usize + 256 * refusal.given()
+}
+
 // 0; or the number of a refusal, and 256 times the task or offset with it: 14, 12 and 13 of the stream, 1 to 4 of its table.
 pub fn meter_start(stream: &[u8], reading: u32, block: &mut [u8]) -> usize
     ensures { TellsStart stream.now reading block.old result block.new }
@@ -41,11 +51,11 @@ pub fn meter_start(stream: &[u8], reading: u32, block: &mut [u8]) -> usize
         return refusals::NOT_WHOLE as usize;
     }
     if let Err(refusal) = stream_test(stream) {
-        return refusal.number() as usize + 256 * refusal.given();
+        return told(refusal);
     }
     let started = start(table_in(stream), reading);
     if let Err(refusal) = started.verdict {
-        return refusal.number() as usize + 256 * refusal.given();
+        return told(refusal);
     }
     save(started.block, block);
     0
@@ -90,35 +100,36 @@ fn answered(called: Called, block: &mut [u8], answer: &mut [u64; 4]) -> u8
     }
 }
 
-// 0, or the number of the refusal.
-pub fn meter_release(block: &mut [u8], reading: u32, task: u8, answer: &mut [u64; 4]) -> u8
-    ensures { Tells (Release reading task) block.old answer.old result block.new answer.new }
+// A call on the block: 0, or the number of the refusal.
+fn called(block: &mut [u8], call: Call, answer: &mut [u64; 4]) -> u8
+    ensures { Tells (call_in call) block.old answer.old result block.new answer.new }
 {
     if block.len() != BLOCK_BYTES {
         return refusals::NOT_WHOLE;
     }
-    let called = load(block).release(reading, TaskNo(task));
+    let called = load(block).call(call);
     answered(called, block, answer)
+}
+
+// What `called` gives back, over the C interface's numbers.
+pub fn meter_release(block: &mut [u8], reading: u32, task: u8, answer: &mut [u64; 4]) -> u8
+    ensures { Tells (Release reading task) block.old answer.old result block.new answer.new }
+{
+    let task = TaskNo(task);
+    called(block, Call::Release { reading, task }, answer)
 }
 
 pub fn meter_done(block: &mut [u8], reading: u32, task: u8, answer: &mut [u64; 4]) -> u8
     ensures { Tells (Done reading task) block.old answer.old result block.new answer.new }
 {
-    if block.len() != BLOCK_BYTES {
-        return refusals::NOT_WHOLE;
-    }
-    let called = load(block).done(reading, TaskNo(task));
-    answered(called, block, answer)
+    let task = TaskNo(task);
+    called(block, Call::Done { reading, task }, answer)
 }
 
 pub fn meter_clock(block: &mut [u8], reading: u32, answer: &mut [u64; 4]) -> u8
     ensures { Tells (Clock reading) block.old answer.old result block.new answer.new }
 {
-    if block.len() != BLOCK_BYTES {
-        return refusals::NOT_WHOLE;
-    }
-    let called = load(block).clock(reading);
-    answered(called, block, answer)
+    called(block, Call::Clock { reading }, answer)
 }
 
 // The number waiting; or 256 times the number of the refusal.
