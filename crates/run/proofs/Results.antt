@@ -1,5 +1,5 @@
--- Two results that a contract allows are equal. A progress is given back by value, so the
--- arrays of its block are as long as their types say: that is the premise `Sizes`. Assumes nothing.
+-- Two results that a contract allows are equal. A progress is given back by value, so the arrays of its block are as long as their types
+-- say: that is the premise `Sizes`. Assumes nothing.
 use mathlib.Core.Path.{◌≡◌, sym, ap, ◌∙◌}
 use mathlib.Core.Bool.{Bool, true, false}
 use mathlib.Core.List.{List}

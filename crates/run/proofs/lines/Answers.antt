@@ -19,10 +19,6 @@ pub events-totals-requires : goal.events-totals-requires
 events-totals-requires c = let s = c in
     (s.requires.0.whole, passed_short s.args.stream.now s.requires.0.passed, omega (arith, s.requires.1, c.plan_lines.ensures.near, c.plan_lines.ensures.long))
 
-pub sum_line-requires : goal.sum_line-requires
-sum_line-requires c = let plans = c.plan_lines.ensures in let events = c.events-totals.ensures.text in
-    omega (arith, c.requires.1, plans.near, plans.long, events.near, events.long)
-
 pub returns : goal.returns
 returns c = let s = c in let events = c.events-totals.ensures in
     report_written s.args.stream.now s.args.block s.requires.0 c.plan_lines.ensures events.text c.sum_line.ensures events.moves events.bound

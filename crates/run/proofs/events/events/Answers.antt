@@ -1,18 +1,6 @@
-use Rattle.records.proofs.Results.{from_front}
-use Rattle.run.proofs.Turns.{along_start, along_begins, along_room, along_end, along_bad, along_task, along_event}
+use Rattle.run.proofs.Turns.{along_end, along_bad, along_task, along_event}
 use Rattle.run.proofs.events.events.Goals as goal
 use Rattle.run.proofs.events.events.Goals.{in-None, in-Some+in_default}
-
-pub loop-item-init : goal.loop-item-init
-loop-item-init c =
-    record { can = tt; ends = tt; along = along_start _ _ _ c.requires.0 _ (from_front c.into_iter-item-iterator.ensures.into_iter_gives c.new-item-items.ensures) }
-
-pub event-now-requires : goal.event-now-requires
-event-now-requires c =
-    let along = c.loop-item.invariant.along in (
-      along_begins _ _ _ _ _ _ along c.requires.1,
-      along_room _ _ _ _ _ _ along c.requires.1 _ _ _ (rw c.in-Ok.is at c.in-Some.ensures.steps) c.requires.2,
-    )
 
 pub loop-item-preserved-in-Event : goal.loop-item-preserved-in-Event
 loop-item-preserved-in-Event c = record {

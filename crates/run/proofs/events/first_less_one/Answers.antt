@@ -23,9 +23,6 @@ first c =
     c.first_level-level.ensures (table_of a.tasks.table) c.requires.laid.copy (table_length a.tasks.table all)
     ∙ laid_first a.tasks a.task.0 c.requires all
 
-pub overflow_sub-entry : goal.overflow_sub-entry
-overflow_sub-entry c = (laid_place c.args.tasks c.args.task.0 c.requires (long (goal.at.overflow_sub-entry c).Start)).0
-
 pub bounds-table-i : goal.bounds-table-i
 bounds-table-i c = omega (arith, laid_place c.args.tasks c.args.task.0 c.requires (long (goal.at.bounds-table-i c).Start))
 

@@ -8,7 +8,7 @@ use Rattle.laws.proofs.Bools.{le_both}
 use Rattle.rules.specs.Table.{most}
 use Rattle.table.specs.Stored.{table_of}
 use Rattle.table.proofs.Tests.{table_length, few_passed}
-use Rattle.run.proofs.Planning.{planning_first, planning_next, planning_end, planning_room}
+use Rattle.run.proofs.Planning.{planning_next, planning_end, planning_room}
 use Rattle.run.proofs.plans.plan_lines.Goals as goal
 use Rattle.run.proofs.plans.plan_lines.Goals.{Start}
 
@@ -21,9 +21,6 @@ counted c = table_length c.args.tasks.table (long c)
 few : (c : Start) → c.args.tasks.table.count ≤ most
 few c = few_passed c.args.tasks.table (long c) c.requires.0.copy.tested
 
-pub loop-k-init : goal.loop-k-init
-loop-k-init c = planning_first _ _
-
 pub overflow_cast-k : goal.overflow_cast-k
 overflow_cast-k c = omega (arith, few (goal.at.overflow_cast-k c).Start, c.loop-k-test.true)
 
@@ -33,9 +30,6 @@ task_line-requires c = let s = c in let i = c.loop-k.invariant in let start = (g
       record { laid = s.requires.0; task = le_both (i.low, in_table) },
       planning_room _ _ i (omega (arith, counted start, few start)) in_table s.requires.1,
     )
-
-pub overflow_step-k : goal.overflow_step-k
-overflow_step-k c = omega (arith, few (goal.at.overflow_step-k c).Start, c.loop-k-test.true)
 
 pub loop-k-preserved : goal.loop-k-preserved
 loop-k-preserved c = planning_next _ _ c.loop-k.invariant (omega (arith, counted (goal.at.loop-k-preserved c).Start, c.loop-k-test.true)) c.task_line.ensures

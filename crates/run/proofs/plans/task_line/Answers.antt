@@ -18,9 +18,6 @@ use Rattle.run.proofs.plans.task_line.Goals.{Start}
 long : (c : Start) → length c.args.tasks.table.tasks ≡ most
 long c = search (rules, long_map)
 
-pub overflow_sub-entry : goal.overflow_sub-entry
-overflow_sub-entry c = omega (arith, laid_place c.args.tasks c.args.task.0 c.requires.0 (long (goal.at.overflow_sub-entry c).Start))
-
 pub bounds-table-i : goal.bounds-table-i
 bounds-table-i c = omega (arith, laid_place c.args.tasks c.args.task.0 c.requires.0 (long (goal.at.bounds-table-i c).Start))
 
