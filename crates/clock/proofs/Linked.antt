@@ -1,9 +1,7 @@
 -- The functions of this crate in one table, and the code of those that crates above call, in each world of tables that has this one (`In`):
 -- for a proof that runs them. Assumes nothing.
-use mathlib.Core.Bool.{true}
-use prog.Wired.{Code}
-use prog.Linked.{Tree, World, Holds, in_world}
-use prog.LinkedThreads.{HasT}
+use prog.Linked.{Tree, World, Holds}
+use Rattle.laws.proofs.Linking.{Found}
 use Rattle.clock.proofs.TheLink as link
 use Rattle.clock.proofs.advance.Symbol as advance'
 
@@ -13,8 +11,5 @@ functions = link.table
 abbrev pub In : World → Type 0
 In W = Holds W "clock" functions
 
-abbrev pub Found : Code → Type 0
-Found c = (W : World) → In W → HasT (in_world W) true c
-
-pub advance : Found advance'.code
+pub advance : Found In advance'.code
 advance W i = link.linked-clock::advance W i tt

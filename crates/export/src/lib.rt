@@ -1,5 +1,5 @@
-// What Rust and C may link, over byte slices and numbers; none asks anything of its arguments. The caller keeps the block as bytes, which
-// `image` lays out; bytes of another length than BLOCK_BYTES are no whole block, and get 15.
+// What Rust and C may link, over byte slices and numbers, as the C interface wants them; none asks anything of its arguments. The caller
+// keeps the block as bytes, which `image` lays out; bytes of another length than BLOCK_BYTES are no whole block, and get 15.
 //
 //     meter_run          the runner's whole output for a stream
 //     meter_start        a block from the task records of a stream

@@ -17,6 +17,7 @@ pub fn read_all<R: Read>(from: &mut R, buffer: &mut [u8]) -> io::Result<usize>
     ensures taken { IfOk result (λ n. Consumes (R.remaining from.old) (R.remaining from.new) (take n buffer.new)) }
     ensures known { IfOk result (λ n. IfSome (R.remaining from.old) (λ bytes. take n buffer.new ≡ take (length buffer.new) bytes)) }
 {
+    // bytes are counted, not elements; the library reads to the end into a heap, or fails on a short input
     let mut at = 0;
     while at < buffer.len() {
         match from.read(&mut buffer[at..])? {

@@ -28,7 +28,8 @@ pub trait Part: Copy {
         ensures { result ≡ from_bytes bytes.now at };
 }
 
-// The parts of an array, one behind the other.
+// The parts of an array, one behind the other. (Two functions, and no impl for arrays: that the size of one fits its type has no proof for any
+// number of parts.)
 pub fn put_all<T: Part, const N: usize>(bytes: &mut [u8], at: usize, parts: &[T; N])
     requires { at + T.SIZE * N ≤ length bytes.old }
     ensures { Puts bytes.old at (all_bytes T.as_bytes parts.now) (at + T.SIZE * N) bytes.new }

@@ -1,5 +1,6 @@
 // Release, done and clock of a whole block: the tests, and then one commit, which promotes the waiting jobs in place, does what the call
-// does, and stores it. A refusal gives the block back as it was.
+// does, and stores it. A refusal gives the block back as it was. (Each call has functions of its own: they differ in the step that they make.
+// That the block is whole is asked in one word, and no second type of block says it.)
 ghost use Rattle.std.specs.Prelude.{◌≡◌};
 ghost use Rattle.rules.specs.Calls.{Release, Done, Clock};
 ghost use Rattle.kernel.specs.Block.{Whole};

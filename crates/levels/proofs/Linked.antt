@@ -1,9 +1,7 @@
 -- The functions of this crate in one table, and the code of those that crates above call, in each world of tables that has this one (`In`):
 -- for a proof that runs them. Assumes nothing.
-use mathlib.Core.Bool.{true}
-use prog.Wired.{Code}
-use prog.Linked.{Tree, World, Holds, in_world}
-use prog.LinkedThreads.{HasT}
+use prog.Linked.{Tree, World, Holds}
+use Rattle.laws.proofs.Linking.{Found}
 use Rattle.levels.proofs.TheLink as link
 use Rattle.levels.proofs.agrees.Symbol as agrees'
 use Rattle.levels.proofs.has_left.Symbol as has_left'
@@ -18,23 +16,20 @@ functions = link.table
 abbrev pub In : World → Type 0
 In W = Holds W "levels" functions
 
-abbrev pub Found : Code → Type 0
-Found c = (W : World) → In W → HasT (in_world W) true c
-
-pub agrees : Found agrees'.code
+pub agrees : Found In agrees'.code
 agrees W i = link.linked-levels::agrees W i tt
 
-pub has_left : Found has_left'.code
+pub has_left : Found In has_left'.code
 has_left W i = link.linked-levels::has_left W i tt
 
-pub level_in : Found level_in'.code
+pub level_in : Found In level_in'.code
 level_in W i = link.linked-levels::level_in W i tt
 
-pub plan_of : Found plan_of'.code
+pub plan_of : Found In plan_of'.code
 plan_of W i = link.linked-levels::plan_of W i tt
 
-pub remaining : Found remaining'.code
+pub remaining : Found In remaining'.code
 remaining W i = link.linked-levels::remaining W i tt
 
-pub rising : Found rising'.code
+pub rising : Found In rising'.code
 rising W i = link.linked-levels::rising W i tt

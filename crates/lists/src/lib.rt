@@ -69,7 +69,7 @@ pub struct Popped {
     pub lists: Lists,
 }
 
-// The map with the bit of the level set.
+// The map with the bit of the level set. (Two functions of a line, which differ by an operator: one would be no plainer.)
 fn with_bit(map: u64, level: Level) -> u64
     requires { Numbered level.0 }
     ensures { BitMade map (level.0 - 1) 1 result }

@@ -33,6 +33,7 @@ impl Lists {
         ensures { (ls : ℕ → List ℕ) → Stores self ls → result ≡ length (listing ls) }
     {
         let mut sum: usize = 0;
+        // the level is what is asked
         for l in 1..=MOST as u8 {
             sum += self.length_of(Level(l));
         }

@@ -49,7 +49,7 @@ fn drain(moment: &Moment, lists: Lists, level: Level) -> Promoted<Lists>
     ensures { (ls : ℕ → List ℕ) → Stores lists ls → DrainedTo (levels_in moment.now) level.0 ls result }
 {
     let mut now = lists;
-    let mut moves: u32 = 0;
+    let mut moves: u32 = 0; // the count is the answer too
     while moves < JOBS {
         match front_next(moment, now, level) {
             None => {

@@ -1,9 +1,7 @@
 -- The functions of this crate in one table, and the code of those that crates above call, in each world of tables that has this one (`In`):
 -- for a proof that runs them. Assumes nothing.
-use mathlib.Core.Bool.{true}
-use prog.Wired.{Code}
-use prog.Linked.{Tree, World, Holds, in_world}
-use prog.LinkedThreads.{HasT}
+use prog.Linked.{Tree, World, Holds}
+use Rattle.laws.proofs.Linking.{Found}
 use Rattle.table.proofs.TheLink as link
 use Rattle.table.proofs.table_test.Symbol as table_test'
 use Rattle.table.proofs.tests_to_3.Symbol as tests_to_3'
@@ -14,11 +12,8 @@ functions = link.table
 abbrev pub In : World → Type 0
 In W = Holds W "table" functions
 
-abbrev pub Found : Code → Type 0
-Found c = (W : World) → In W → HasT (in_world W) true c
-
-pub table_test : Found table_test'.code
+pub table_test : Found In table_test'.code
 table_test W i = link.linked-table::table_test W i tt
 
-pub tests_to_3 : Found tests_to_3'.code
+pub tests_to_3 : Found In tests_to_3'.code
 tests_to_3 W i = link.linked-table::tests_to_3 W i tt

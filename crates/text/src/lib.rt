@@ -48,7 +48,7 @@ impl<'a> Text<'a> {
         self.number(n);
     }
 
-    // A signed number in decimal.
+    // A signed number in decimal: its sign, and its size.
     pub fn signed(&mut self, z: i64)
         requires { HasRoom self.old column_room }
         ensures { Writes self.old (signed_text z) column_room self.new }
