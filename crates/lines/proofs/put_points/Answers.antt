@@ -1,7 +1,6 @@
 use Rattle.std.proofs.Common.{take}
 use Rattle.lines.proofs.Points.{points_none, points_next}
 use Rattle.lines.proofs.put_points.Goals as goal
-use Rattle.lines.proofs.put_points.Goals.{After-loop-point}
 
 pub loop-point-init : goal.loop-point-init
 loop-point-init c = points_none _ (take c.args.plan.count c.args.plan.points)
