@@ -14,7 +14,7 @@ use Rattle.laws.specs.Words.{pick, digit, count, put}
 use Rattle.laws.proofs.Bools.{digit_le, true_false, both_le}
 use Rattle.laws.proofs.Counts.{count_cons, in_count}
 use Rattle.laws.proofs.Families.{put_all, put_same}
-use Rattle.rules.specs.Numbers.{Verdict, Passed, Failed, first_of}
+use Rattle.rules.specs.Numbers.{Verdict, Failed, first_of}
 use Rattle.rules.specs.Table.{most, is_task}
 use Rattle.rules.specs.Levels.{rising_of, remaining_of}
 use Rattle.rules.specs.Clock.{last_tick}
@@ -54,26 +54,14 @@ use Rattle.kernel.specs.declared.Refusal.{Refusal}
 use Rattle.kernel.specs.Answers.{refusal_in, answer_in}
 use Rattle.kernel.specs.Tests.{checked_in, checked_of}
 use Rattle.kernel.specs.Calls.{Does, refused_as, accepted_as, Goes}
-use Rattle.clock.proofs.Answers.{verdict_kept, time_kept}
-use Rattle.std.specs.Prelude.{Err, None, Ok, Result, Some}
+use Rattle.clock.proofs.Answers.{verdict_kept}
+use Rattle.std.specs.Prelude.{Err, None, Result, Some}
 
 -- ---- what the tests found
 
 module _ (b : Block) (c : Call) (w : Whole b) (r : Result ℕ Refusal) (found : checked_in r ≡ checked_of (view_of b) c) where
   verdict : first_of (tests_of (view_of b) c) ≡ (checked_in r).verdict
   verdict = sym (ap (λ (x : Advanced). x.verdict) found ∙ verdict_kept (time_at (view_of b) (reading_of c)) (first_of (tests_of (view_of b) c)))
-
-  -- the call goes on, at its time
-  pub goes : {time : ℕ} → r ≡ Ok time → Goes b c time
-  goes e =
-      let passed : first_of (tests_of (view_of b) c) ≡ Passed = verdict ∙ ap (λ (x : Result ℕ Refusal). (checked_in x).verdict) e in
-      record {
-        whole = w;
-        passed = passed;
-        at =
-            sym (ap (λ (x : Result ℕ Refusal). (checked_in x).time) e) ∙ ap (λ (x : Advanced). x.time) found
-            ∙ time_kept (time_at (view_of b) (reading_of c)) (first_of (tests_of (view_of b) c)) passed;
-      }
 
   -- it is refused
   pub refuses : {q : Refusal} → r ≡ Err q → {x : Called} → x ≡ refused_as q b → Does b c x

@@ -1,29 +1,10 @@
 -- Test 15, and what follows from each of its results. Assumes nothing.
-use mathlib.Core.Path.{◌≡◌, refl, subst}
-use mathlib.Core.Bool.{Bool, true, false, not}
+use mathlib.Core.Path.{subst}
+use mathlib.Core.Bool.{Bool, true, false}
 use Rattle.laws.specs.Words.{Decides}
-use Rattle.laws.proofs.Bools.{true_false, decides_one}
+use Rattle.laws.proofs.Bools.{decides_one}
 use Rattle.kernel.specs.declared.Block.{Block}
 use Rattle.kernel.specs.Block.{Whole, Test15}
-
--- ---- what a test that was asked tells
-
-module _ {b : Block} {P : Bool → Type 0} (w : Bool) (told : Decides w (Whole b)) where
-  pub is_whole : not w ≡ false → P true → Test15 b P
-  is_whole e p = go w told e
-    where
-      go : (x : Bool) → Decides x (Whole b) → not x ≡ false → Test15 b P
-      go true d f = record { whole = true; decides = d; then = p }
-      go false d f = true_false true refl f
-
-  pub not_whole : not w ≡ true → P false → Test15 b P
-  not_whole e p = go w told e
-    where
-      go : (x : Bool) → Decides x (Whole b) → not x ≡ true → Test15 b P
-      go true d f = true_false false f refl
-      go false d f = record { whole = false; decides = d; then = p }
-
--- ---- what follows
 
 module _ {b : Block} where
   pub then_15 : {P Q : Bool → Type 0} → ((w : Bool) → P w → Q w) → Test15 b P → Test15 b Q

@@ -1,7 +1,7 @@
 -- What start gives back: the rules' start where the table is sound, and zeros where it is not. Assumes nothing.
 use mathlib.Core.Path.{◌≡◌, refl, sym, ap, ◌∙◌, subst, fun_ext}
 use mathlib.Core.Bool.{Bool, true, false, and-false}
-use mathlib.Core.List.{List, [], ◌++◌}
+use mathlib.Core.List.{List, []}
 use Prim.Native.Nat.{ℕ, zero, suc, ◌-◌}
 use native.Mathlib.Omega.{arith}
 use lib.ListN.{length, take, replicate}
@@ -16,7 +16,7 @@ use Rattle.rules.proofs.Tables.{passed_to_3}
 use Rattle.rules.proofs.Wholes.{whole_start}
 use Rattle.table.specs.declared.Table.{Table}
 use Rattle.table.specs.declared.TableRefusal.{TableRefusal}
-use Rattle.std.specs.Prelude.{Ok, Err}
+use Rattle.std.specs.Prelude.{Err}
 use Rattle.table.specs.Stored.{table_of, table_refusal_in}
 use Rattle.table.proofs.Tests.{table_length, verdict_one}
 use Rattle.levels.proofs.Copies.{laid_first}
@@ -37,11 +37,6 @@ use Rattle.kernel.specs.Start.{Fresh, laid_down, no_tasks, StartsBy, Starts}
 -- ---- start meets its contract
 
 module _ (table : Table) (reading : ℕ) where
-  pub starts_sound : {b : Block} {copy : List ℕ} → verdict_of (table_of table) ≡ Passed → copy ≡ rising_of (table_of table) ++ replicate (most - table.count) 0
-      → Fresh (record { table = table; rising = copy }) reading b → Starts table reading (record { verdict = Ok tt; block = b })
-  starts_sound {b} e laid f =
-      record { verdict = sym e; block = rw e (subst (λ (q : List ℕ). Fresh (record { table = table; rising = q }) reading b) laid f) }
-
   pub starts_refused : (r : TableRefusal) {b : Block} {tasks : Tasks} → Failed (table_refusal_in r) ≡ verdict_of (table_of table)
       → tasks ≡ no_tasks → Fresh tasks 0 b → Starts table reading (record { verdict = Err r; block = b })
   starts_refused r {b} e none f = record { verdict = e; block = rw (sym e) (subst (λ (t : Tasks). Fresh t 0 b) none f) }

@@ -1,18 +1,16 @@
 -- What the tests of a call find, test by test. Assumes nothing.
 use mathlib.Core.Path.{◌≡◌, sym, ap, ◌∙◌}
-use mathlib.Core.Bool.{Bool, true, false, not, ◌&&◌}
+use mathlib.Core.Bool.{Bool, true, false, ◌&&◌}
 use mathlib.Core.List.{List, ◌∷◌}
-use Prim.Native.Nat.{ℕ, ◌+◌, ◌-◌}
+use Prim.Native.Nat.{ℕ, ◌-◌}
 use native.Mathlib.Omega.{arith}
-use borrow.Author.Tests.{not-true, not-false}
-use lib.Dec.{eqb, ltb, leb}
+use lib.Dec.{leb}
 use lib.ListN.{length}
 use Rattle.rules.specs.Numbers.{Test, Passed, first_of}
 use Rattle.rules.specs.Table.{most, is_task}
 use Rattle.rules.specs.State.{State, time_of}
 use Rattle.rules.specs.Calls.{Call, Clock, reading_of, time_at, too_soon, is_running, clock_tests, task_test, release_tests, done_tests, later_tests, tests_of}
 use Rattle.rules.proofs.Verdicts.{first_append, first_append_failed}
-use Rattle.table.specs.declared.TaskNo.{TaskNo}
 use Rattle.table.proofs.Tests.{nth}
 use Rattle.clock.specs.Advance.{Advanced, advanced_by, advance_of}
 use Rattle.clock.proofs.Answers.{verdict_kept, time_kept}
@@ -62,20 +60,18 @@ module _ (s : State) (c : Call) (r : Result ℕ Refusal) (found : checked_in r �
 -- ---- test 7
 
 -- what the code asks of the stored table is the rules' test
-module _ (b : Block) (long : length b.tasks.table.tasks ≡ most) (k : ℕ) {r : Bool} (asked : r ≡ (leb 1 k && leb k b.tasks.table.count)) where
-  pub asked_task : not r ≡ false → is_task (view_of b).table k ≡ true
-  asked_task h = sym (asked ∙ task_asked b.tasks.table long k) ∙ not-false r h
-
-  pub asked_none : not r ≡ true → is_task (view_of b).table k ≡ false
-  asked_none h = sym (asked ∙ task_asked b.tasks.table long k) ∙ not-true r h
+module _ (b : Block) (long : length b.tasks.table.tasks ≡ most) (k : ℕ) where
+  pub asked_task : {r : Bool} → r ≡ (leb 1 k && leb k b.tasks.table.count) → is_task (view_of b).table k ≡ r
+  asked_task asked = sym (asked ∙ task_asked b.tasks.table long k)
 
   -- a task of a whole block
-  pub asked_dated : Whole b → not r ≡ false → Dated b.tasks.table b.jobs k
-  asked_dated w h = record { tested = w.tasks_whole.table; task = asked_task h; past = omega (arith, w.jobs_whole.past k, w.ticks) }
+  pub asked_dated : Whole b → true ≡ (leb 1 k && leb k b.tasks.table.count) → Dated b.tasks.table b.jobs k
+  asked_dated w asked = record { tested = w.tasks_whole.table; task = asked_task asked; past = omega (arith, w.jobs_whole.past k, w.ticks) }
 
-  pub no_such_task : (time : ℕ) (xs : List Test) → not r ≡ true → checked_in (Err Refusal.NoSuchTask) ≡ go_on time (task_test (view_of b).table k ∷ xs)
+  pub no_such_task : (time : ℕ) (xs : List Test) → false ≡ (leb 1 k && leb k b.tasks.table.count)
+      → checked_in (Err Refusal.NoSuchTask) ≡ go_on time (task_test (view_of b).table k ∷ xs)
   unfolding first_of
-  no_such_task time xs h = rw (asked_none h)
+  no_such_task time xs asked = rw (asked_task asked)
 
 -- ---- tests 8 and 9
 
@@ -83,9 +79,6 @@ module _ (b : Block) (long : length b.tasks.table.tasks ≡ most) (k : ℕ) {r :
 module _ {l : Option ℕ} {t : ℕ} (e : l ≡ Some t) where
   pub time_found : time_of (last_in l) ≡ t
   time_found = rw e
-
-  pub soon_at : (spacing time : ℕ) → ltb time (t + spacing) ≡ too_soon (last_in l) spacing time
-  soon_at spacing time = rw e
 
 module _ (b : Block) (time k : ℕ) (d : Dated b.tasks.table b.jobs k) where
   pub task_active : (job_at b.jobs k).active ≡ true → checked_in (Err Refusal.TaskActive) ≡ go_on time (release_tests (view_of b) time k)
@@ -105,9 +98,6 @@ module _ (b : Block) (time k : ℕ) (d : Dated b.tasks.table b.jobs k) where
     release_allowed h = rw (d.task, dated_entry d long, a, h)
 
 -- ---- test 10
-
-pub runs_one : {w : Option TaskNo} {t : TaskNo} → w ≡ Some t → (k : ℕ) → eqb t.0 k ≡ is_running (who_in w) k
-runs_one e k = rw e
 
 module _ (b : Block) (time k : ℕ) (task : is_task (view_of b).table k ≡ true) where
   pub not_running : is_running (who_in b.ready.running) k ≡ false → checked_in (Err Refusal.NotRunning) ≡ go_on time (done_tests (view_of b) k)

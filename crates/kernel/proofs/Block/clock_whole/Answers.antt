@@ -1,8 +1,5 @@
-use Rattle.kernel.proofs.Commits.{goes, refuses}
+use Rattle.kernel.proofs.Commits.{refuses}
 use Rattle.kernel.proofs.Block.clock_whole.Goals as goal
-
-pub moved-requires : goal.moved-requires
-moved-requires c = let b = c in goes _ _ b.requires _ b.clock_tests.ensures c.in-Ok.is
 
 pub returns-in-Err : goal.returns-in-Err
 returns-in-Err c = let b = c in

@@ -1,7 +1,6 @@
 use mathlib.Core.Path.{◌≡◌, sym, ◌∙◌}
 use mathlib.Core.Bool.{true}
 use borrow.Author.Rules.{rules}
-use borrow.Author.Tests.{not-true, not-false}
 use lib.ListN.{length}
 use Rattle.laws.proofs.Arrays.{long_map}
 use Rattle.rules.specs.Table.{most, is_task}
@@ -14,16 +13,16 @@ long : (c : Start) → length c.args.self.tasks.table.tasks ≡ most
 long c = search (rules, long_map)
 
 task : (c : Else-not-known) → length c.args.self.tasks.table.tasks ≡ most → is_task (view_of c.args.self).table c.args.task.0 ≡ true
-task c l = asked_task c.args.self l c.args.task.0 c.in_table-known.ensures c.if-not-known.false-raw
+task c l = asked_task c.args.self l c.args.task.0 c.in_table-known.ensures ∙ c.if-not-known.false
 
 pub returns-then-not-known : goal.returns-then-not-known
 returns-then-not-known c = let a = c.args in
-    no_such_task a.self (long (goal.at.returns-then-not-known c).Start) a.task.0 c.in_table-known.ensures a.time _ c.if-not-known.true-raw
+    no_such_task a.self (long (goal.at.returns-then-not-known c).Start) a.task.0 a.time _ (sym c.if-not-known.true ∙ c.in_table-known.ensures)
 
 pub returns-then-not-runs : goal.returns-then-not-runs
 returns-then-not-runs c = let a = c.args in
-    not_running a.self a.time a.task.0 (task (goal.at.returns-then-not-runs c).Else-not-known (long (goal.at.returns-then-not-runs c).Start)) (sym c.is_running-runs.ensures ∙ not-true _ c.if-not-runs.true-raw)
+    not_running a.self a.time a.task.0 (task (goal.at.returns-then-not-runs c).Else-not-known (long (goal.at.returns-then-not-runs c).Start)) (sym c.is_running-runs.ensures ∙ c.if-not-runs.true)
 
 pub returns-else-not-runs : goal.returns-else-not-runs
 returns-else-not-runs c = let a = c.args in
-    end_allowed a.self a.time a.task.0 (task (goal.at.returns-else-not-runs c).Else-not-known (long (goal.at.returns-else-not-runs c).Start)) (sym c.is_running-runs.ensures ∙ not-false _ c.if-not-runs.false-raw)
+    end_allowed a.self a.time a.task.0 (task (goal.at.returns-else-not-runs c).Else-not-known (long (goal.at.returns-else-not-runs c).Start)) (sym c.is_running-runs.ensures ∙ c.if-not-runs.false)

@@ -14,17 +14,14 @@ long : (c : Start) → length c.args.self.tasks.table.tasks ≡ most
 long c = search (rules, long_map)
 
 dated : (c : Else-not-in_table) → length c.args.self.tasks.table.tasks ≡ most → Dated c.args.self.tasks.table c.args.self.jobs c.args.task.0
-dated c l = asked_dated c.args.self l c.args.task.0 c.in_table.ensures c.requires c.if-not-in_table.false-raw
+dated c l = asked_dated c.args.self l c.args.task.0 c.requires c.if-not-in_table.ensures
 
 pub returns-then-not-in_table : goal.returns-then-not-in_table
 returns-then-not-in_table c = let a = c.args in
-    no_such_task a.self (long (goal.at.returns-then-not-in_table c).Start) a.task.0 c.in_table.ensures a.time _ c.if-not-in_table.true-raw
+    no_such_task a.self (long (goal.at.returns-then-not-in_table c).Start) a.task.0 a.time _ c.if-not-in_table.ensures
 
 pub bounds-self-k : goal.bounds-self-k
 bounds-self-k c = omega (arith, dated_task (dated (goal.at.bounds-self-k c).Else-not-in_table (long (goal.at.bounds-self-k c).Start)) (long (goal.at.bounds-self-k c).Start))
-
-pub overflow_sub-entry : goal.overflow_sub-entry
-overflow_sub-entry c = omega (arith, dated_task (dated (goal.at.overflow_sub-entry c).Else-not-in_table (long (goal.at.overflow_sub-entry c).Start)) (long (goal.at.overflow_sub-entry c).Start))
 
 pub bounds-table-k : goal.bounds-table-k
 bounds-table-k c = omega (arith, dated_task (dated (goal.at.bounds-table-k c).Else-not-in_table (long (goal.at.bounds-table-k c).Start)) (long (goal.at.bounds-table-k c).Start))

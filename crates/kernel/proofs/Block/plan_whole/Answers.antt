@@ -9,7 +9,7 @@ use Rattle.table.proofs.Tests.{table_length}
 use Rattle.jobs.specs.Kept.{Dated}
 use Rattle.jobs.proofs.Keeping.{dated_task}
 use Rattle.kernel.specs.Block.{view_of}
-use Rattle.kernel.proofs.Testing.{asked_none, asked_dated}
+use Rattle.kernel.proofs.Testing.{asked_task, asked_dated}
 use Rattle.kernel.proofs.Asking.{copy_viewed, plan_none, plan_given}
 use Rattle.kernel.proofs.Block.plan_whole.Goals as goal
 use Rattle.kernel.proofs.Block.plan_whole.Goals.{Else-not-in_table, Start}
@@ -18,15 +18,12 @@ long : (c : Start) → length c.args.self.tasks.table.tasks ≡ most
 long c = search (rules, long_map)
 
 dated : (c : Else-not-in_table) → length c.args.self.tasks.table.tasks ≡ most → Dated c.args.self.tasks.table c.args.self.jobs c.args.task.0
-dated c l = asked_dated c.args.self l c.args.task.0 c.in_table.ensures c.requires c.if-not-in_table.false-raw
+dated c l = asked_dated c.args.self l c.args.task.0 c.requires c.if-not-in_table.ensures
 
 pub returns-then-not-in_table : goal.returns-then-not-in_table
 returns-then-not-in_table c = let a = c.args in
     plan_none (view_of a.self) a.task.0
-    (asked_none a.self (long (goal.at.returns-then-not-in_table c).Start) a.task.0 c.in_table.ensures c.if-not-in_table.true-raw)
-
-pub overflow_sub-entry : goal.overflow_sub-entry
-overflow_sub-entry c = omega (arith, dated_task (dated (goal.at.overflow_sub-entry c).Else-not-in_table (long (goal.at.overflow_sub-entry c).Start)) (long (goal.at.overflow_sub-entry c).Start))
+    (asked_task a.self (long (goal.at.returns-then-not-in_table c).Start) a.task.0 c.if-not-in_table.ensures)
 
 pub bounds-table-k : goal.bounds-table-k
 bounds-table-k c = omega (arith, dated_task (dated (goal.at.bounds-table-k c).Else-not-in_table (long (goal.at.bounds-table-k c).Start)) (long (goal.at.bounds-table-k c).Start))
