@@ -7,10 +7,6 @@ use Rattle.laws.proofs.Arrays.{long_map}
 use Rattle.rules.specs.Table.{most}
 use Rattle.kernel.proofs.Commits.{ticks, promotable, releveled_moves, releveled_keeps, place, running_task, running_dated, margin_held, ended_does}
 use Rattle.kernel.proofs.Block.ended.Goals as goal
-use Rattle.kernel.proofs.Block.ended.Goals.{Start}
-
-long : (c : Start) → length c.args.self.jobs ≡ suc most
-long c = search (rules, long_map)
 
 pub time_left-margin-requires : goal.time_left-margin-requires
 time_left-margin-requires c = let e = c.at-moment.ensures in rw (e.0, e.1, e.2) (running_dated c.requires)
@@ -22,12 +18,12 @@ relevel-moves-requires c =
 
 pub bounds-self-k : goal.bounds-self-k
 bounds-self-k c =
-    let all = long (goal.at.bounds-self-k c).Start in
+    let all : length c.args.self.jobs ≡ suc most = search (rules, long_map) in
     omega (arith, place c.requires all c.args.task.0 (running_task c.requires), all)
 
 pub bounds-self-k-2 : goal.bounds-self-k-2
 bounds-self-k-2 c =
-    let all = long (goal.at.bounds-self-k-2 c).Start in
+    let all : length c.args.self.jobs ≡ suc most = search (rules, long_map) in
     omega (arith, place c.requires all c.args.task.0 (running_task c.requires), all)
 
 pub leave-after-requires : goal.leave-after-requires
@@ -41,5 +37,5 @@ returns c =
     let e = c.at-moment.ensures in
     let x = c.relevel-moves in
     let done = rw (e.0, e.1, e.2) at x.ensures in
-    ended_does c.requires (long (goal.at.returns c).Start) _ (margin_held c.requires c.time_left-margin.result (rw (e.0, e.1, e.2) at c.time_left-margin.ensures))
+    ended_does c.requires (search (rules, long_map)) _ (margin_held c.requires c.time_left-margin.result (rw (e.0, e.1, e.2) at c.time_left-margin.ensures))
     _ (releveled_moves c.requires x.result done) c.leave-after.result (c.leave-after.ensures _ (releveled_keeps c.requires x.result done)) c.accepted.ensures
