@@ -10,23 +10,23 @@ use Rattle.kernel.proofs.Block.listing_whole.Goals as goal
 use Rattle.kernel.proofs.Block.listing_whole.Goals.{After-waiting-waiting}
 
 counted : (c : After-waiting-waiting) → c.waiting-waiting.result ≡ length (waiting (view_of c.args.self))
-counted c = let s = c in c.waiting-waiting.ensures _ (lists_viewed s.args.self s.requires)
+counted c = c.waiting-waiting.ensures _ (lists_viewed c.args.self c.requires)
 
 pub overflow_mul-waiting : goal.overflow_mul-waiting
-overflow_mul-waiting c = let s = c in omega (arith, counted (goal.at.overflow_mul-waiting c).After-waiting-waiting, listing_few (lists_viewed s.args.self s.requires).waits)
+overflow_mul-waiting c = omega (arith, counted (goal.at.overflow_mul-waiting c).After-waiting-waiting, listing_few (lists_viewed c.args.self c.requires).waits)
 
 pub returns-then-buffer-waiting : goal.returns-then-buffer-waiting
-returns-then-buffer-waiting c = let s = c in listed_short (view_of s.args.self) s.args.buffer.now (counted (goal.at.returns-then-buffer-waiting c).After-waiting-waiting) (omega (arith, c.if-buffer-waiting.true))
+returns-then-buffer-waiting c = listed_short (view_of c.args.self) c.args.buffer.now (counted (goal.at.returns-then-buffer-waiting c).After-waiting-waiting) (omega (arith, c.if-buffer-waiting.true))
 
 pub list_all-requires : goal.list_all-requires
-list_all-requires c = let s = c in
+list_all-requires c =
     record {
-      lists = (view_of s.args.self).ready.lists;
-      stores = lists_viewed s.args.self s.requires;
-      room = omega (arith, counted (goal.at.list_all-requires c).After-waiting-waiting, bytes_twice (view_of s.args.self).ready.lists, c.if-buffer-waiting.false);
+      lists = (view_of c.args.self).ready.lists;
+      stores = lists_viewed c.args.self c.requires;
+      room = omega (arith, counted (goal.at.list_all-requires c).After-waiting-waiting, bytes_twice (view_of c.args.self).ready.lists, c.if-buffer-waiting.false);
     }
 
 pub returns : goal.returns
-returns c = let s = c in
-    listed_all (view_of s.args.self) s.args.buffer.now (counted (goal.at.returns c).After-waiting-waiting) c.if-buffer-waiting.false
-    (c.list_all.ensures _ (lists_viewed s.args.self s.requires))
+returns c =
+    listed_all (view_of c.args.self) c.args.buffer.now (counted (goal.at.returns c).After-waiting-waiting) c.if-buffer-waiting.false
+    (c.list_all.ensures _ (lists_viewed c.args.self c.requires))

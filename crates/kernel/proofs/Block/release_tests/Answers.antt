@@ -8,5 +8,5 @@ pub returns-in-Err : goal.returns-in-Err
 returns-in-Err c = refused_early _ _ _ c.clock_tests.ensures c.in-Err.is
 
 pub returns-in-Ok : goal.returns-in-Ok
-returns-in-Ok c = let a = c in
-    c.may_release.ensures ∙ goes_on _ _ _ c.clock_tests.ensures (λ t. release_tests (view_of a.args.self) t a.args.task.0) refl c.in-Ok.is
+returns-in-Ok c =
+    c.may_release.ensures ∙ goes_on _ _ _ c.clock_tests.ensures (λ t. release_tests (view_of c.args.self) t c.args.task.0) refl c.in-Ok.is

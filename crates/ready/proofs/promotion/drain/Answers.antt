@@ -10,12 +10,12 @@ pub returns-in-None : goal.returns-in-None
 returns-in-None c = draining_ends c.loop-moves.invariant c.front_next.ensures c.in-None.is
 
 pub move_front-now-requires : goal.move_front-now-requires
-move_front-now-requires c = let b = c in
-    (search rules, omega (arith, draining_level b.loop-moves.invariant b.front_next.ensures _ c.in-Some.is))
+move_front-now-requires c =
+    (search rules, omega (arith, draining_level c.loop-moves.invariant c.front_next.ensures _ c.in-Some.is))
 
 pub loop-moves-preserved : goal.loop-moves-preserved
-loop-moves-preserved c = let b = c in
-    draining_turns b.loop-moves.invariant b.front_next.ensures _ c.in-Some.is c.move_front-now.ensures
+loop-moves-preserved c =
+    draining_turns c.loop-moves.invariant c.front_next.ensures _ c.in-Some.is c.move_front-now.ensures
 
 pub returns : goal.returns
 returns c = draining_all c.loop-moves.invariant (omega (arith, c.loop-moves-test.false))

@@ -24,8 +24,8 @@ pub overflow_add-from : goal.overflow_add-from
 overflow_add-from c = omega (arith, (turned (goal.at.overflow_add-from c).After-drain-moves).high)
 
 pub loop-from-smaller : goal.loop-from-smaller
-loop-from-smaller c = let a = c in
-    omega (arith, promoting_level a.loop-from.invariant a.lowest_from.ensures _ c.in-Some.is)
+loop-from-smaller c =
+    omega (arith, promoting_level c.loop-from.invariant c.lowest_from.ensures _ c.in-Some.is)
 
 pub loop-from-preserved : goal.loop-from-preserved
 loop-from-preserved c = turned (goal.at.loop-from-preserved c).After-drain-moves
