@@ -61,7 +61,7 @@ pub fn meter_start(stream: &[u8], reading: u32, block: &mut [u8]) -> usize
     0
 }
 
-// 0 where the margin is none, 1 where it is 0 or more, 2 where the job was late.
+// 0 where the margin is none, 1 where it is 0 or more, 2 where the job was late. (A number, as the C interface has it.)
 fn kind_of(margin: Option<i64>) -> u64
     ensures { result ≡ kind_of (margin_in margin) }
 {
@@ -111,7 +111,7 @@ fn called(block: &mut [u8], call: Call, answer: &mut [u64; 4]) -> u8
     answered(called, block, answer)
 }
 
-// What `called` gives back, over the C interface's numbers.
+// The three calls, each under its own name, which the C interface has.
 pub fn meter_release(block: &mut [u8], reading: u32, task: u8, answer: &mut [u64; 4]) -> u8
     ensures { Tells (Release reading task) block.old answer.old result block.new answer.new }
 {
