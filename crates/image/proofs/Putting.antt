@@ -6,7 +6,7 @@ use native.Mathlib.Numerals.{add-one}
 use native.Mathlib.Nat.{mul-zero, mul-add}
 use native.Mathlib.Omega.{arith}
 use lib.ListN.{length, get_or, take}
-use lib.Seq.{take-suc, take_all}
+use lib.Seq.{take-suc}
 use Rattle.laws.specs.Words.{Puts}
 use Rattle.laws.proofs.Buffers.{puts_behind, puts_to, puts_as}
 use Rattle.image.specs.Bytes.{little, all_bytes}
@@ -41,6 +41,3 @@ module _ {X : Type 0} (bytes : X → List ℕ) where
           let more : end ≡ place + width * (i + 1) = omega (arith, mul-add width i 1) in
           puts_as (sym (rw (add-one i, take-suc xs i x h, all_bytes_append (take i xs) (get_or xs i x ∷ []), append-nil (bytes (get_or xs i x)))))
           (puts_to more (puts_behind now q here))
-
-      pub all_put : (n : ℕ) → length xs ≡ n → i ≡ n → Puts a place (all_bytes bytes xs) (place + width * n) b
-      all_put n long e = puts_as (ap (all_bytes bytes) (take_all i xs (omega arith))) (puts_to (ap (λ (k : ℕ). place + width * k) e) now)
