@@ -71,7 +71,7 @@ impl Block {
             last: Some(time),
         };
         let after = waiting.enter(&moment, task);
-        let jobs = moment.jobs; // an array is stored from a variable
+        let jobs = moment.jobs; // through a variable, as the check asks of an array
         self.jobs = jobs;
         self.accepted(after, time, reading, moves, None)
     }

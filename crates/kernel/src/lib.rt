@@ -138,7 +138,7 @@ impl Block {
     fn at(self, time: u64) -> Moment
         ensures { (result.tasks ≡ self.tasks) × (result.jobs ≡ self.jobs) × (result.time ≡ time) }
     {
-        let jobs = self.jobs; // an array is stored from a variable
+        let jobs = self.jobs; // through a variable, as the check asks of an array
         Moment {
             tasks: self.tasks,
             jobs,
