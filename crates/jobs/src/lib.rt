@@ -73,6 +73,6 @@ impl Moment {
         ensures { result.0 ≡ levels_in self.now task.0 }
     {
         let left = self.time_left(task);
-        level_in(self.tasks.table.count, &self.tasks.rising, left)
+        level_in(&self.tasks.rising[..self.tasks.table.count], left)
     }
 }

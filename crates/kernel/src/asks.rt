@@ -57,6 +57,6 @@ impl Block {
         }
         let k = task.0 as usize;
         let entry = table.tasks[k - 1];
-        Ok(plan_of(table.count, &self.tasks.rising, entry.d))
+        Ok(plan_of(&self.tasks.rising[..table.count], entry.d))
     }
 }

@@ -26,6 +26,9 @@ use Rattle.std.specs.Prelude.{None, Option, Some}
 -- ---- told by whether it has left its level
 
 module _ (l to : ℕ) {left : Bool} (told : left ≡ ltb to l) where
+  pub not_left_stays : left ≡ false → None ≡ goes_to l to
+  not_left_stays f = let e : ltb to l ≡ false = sym told ∙ f in rw e
+
   pub left_goes : (level : Level) → left ≡ true → level.0 ≡ to → Some level ≡ goes_to l to
   left_goes level t e = let g : ltb to l ≡ true = sym told ∙ t in rw g (ap (λ (i : ℕ). Some (record { 0 = i })) e)
 

@@ -25,11 +25,11 @@ fn next_of(moment: &Moment, level: Level, task: TaskNo) -> Option<Level>
     ensures { result ≡ goes_to level.0 (levels_in moment.now task.0) }
 {
     let left = moment.time_left(task);
-    let tasks = &moment.tasks;
-    if !has_left(&tasks.rising, level, left) {
+    let rising = &moment.tasks.rising[..moment.tasks.table.count];
+    if !has_left(rising, level, left) {
         return None;
     }
-    Some(level_in(tasks.table.count, &tasks.rising, left))
+    Some(level_in(rising, left))
 }
 
 // The same for the front job of the level's list, where there is one.

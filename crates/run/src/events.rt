@@ -94,7 +94,7 @@ fn first_less_one(tasks: Tasks, task: TaskNo) -> u64
     let table = tasks.table;
     let i = task.0 as usize;
     let entry = table.tasks[i - 1];
-    let level = first_level(table.count, &tasks.rising, entry.d);
+    let level = first_level(&tasks.rising[..table.count], entry.d);
     level.0 as u64 - 1
 }
 

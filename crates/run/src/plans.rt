@@ -22,8 +22,9 @@ fn task_line(tasks: Tasks, task: TaskNo, out: &mut Text)
     let table = tasks.table;
     let i = task.0 as usize;
     let entry = table.tasks[i - 1];
-    let level = first_level(table.count, &tasks.rising, entry.d);
-    let plan = plan_of(table.count, &tasks.rising, entry.d);
+    let rising = &tasks.rising[..table.count];
+    let level = first_level(rising, entry.d);
+    let plan = plan_of(rising, entry.d);
     plan_line(out, task.0 as u64, level, plan);
 }
 

@@ -4,8 +4,8 @@ use borrow.Author.Rules.{rules}
 use lib.ListN.{length}
 use Rattle.laws.proofs.Arrays.{long_map}
 use Rattle.rules.specs.Table.{most}
-use Rattle.table.specs.Stored.{table_of}
 use Rattle.table.proofs.Tests.{table_length}
+use Rattle.levels.proofs.Copies.{front_few, front_copy, front_size, front_copied}
 use Rattle.jobs.specs.Kept.{Dated}
 use Rattle.jobs.proofs.Keeping.{dated_task}
 use Rattle.kernel.specs.Block.{view_of}
@@ -27,15 +27,21 @@ returns-then-not-in_table c = let a = c.args in
 pub bounds-table-k : goal.bounds-table-k
 bounds-table-k c = let told = (goal.at.bounds-table-k c).Else-not-in_table in omega (arith, dated_task (dated told) (long told))
 
+pub shared_ref_as_front-plan_of : goal.shared_ref_as_front-plan_of
+shared_ref_as_front-plan_of c =
+    let all = long (goal.at.shared_ref_as_front-plan_of c).Else-not-in_table in
+    front_few (copy_viewed c.args.self c.requires all) (table_length c.args.self.tasks.table all)
+
 pub plan_of-requires : goal.plan_of-requires
 plan_of-requires c =
-    let b = c.args.self in
     let all = long (goal.at.plan_of-requires c).Else-not-in_table in
-    record { table = table_of b.tasks.table; copy_of = copy_viewed b c.requires all; size = table_length b.tasks.table all }
+    front_copied (copy_viewed c.args.self c.requires all) (table_length c.args.self.tasks.table all)
 
 pub returns : goal.returns
 returns c =
     let b = c.args.self in
     let told = (goal.at.returns c).Else-not-in_table in
     let all = long told in
-    plan_given b c.args.task.0 all (dated told) (c.plan_of.ensures (table_of b.tasks.table) (copy_viewed b c.requires all) (table_length b.tasks.table all))
+    let copy = copy_viewed b c.requires all in
+    let size = table_length b.tasks.table all in
+    plan_given b c.args.task.0 all (dated told) (c.plan_of.ensures _ (front_copy copy size) (front_size copy size))

@@ -8,8 +8,7 @@ use Rattle.rules.specs.Table.{most}
 use Rattle.rules.specs.Levels.{first_level}
 use Rattle.rules.proofs.Levels.{first_low}
 use Rattle.table.specs.Stored.{table_of}
-use Rattle.table.proofs.Tests.{table_length}
-use Rattle.run.proofs.Laid.{laid_place, laid_first, laid_copied}
+use Rattle.run.proofs.Laid.{laid_place, laid_first, laid_copied, laid_copy, laid_size}
 use Rattle.run.proofs.events.first_less_one.Goals as goal
 use Rattle.run.proofs.events.first_less_one.Goals.{After-first_level-level, Start}
 
@@ -20,11 +19,14 @@ first : (c : After-first_level-level) → c.first_level-level.result.0 ≡ first
 first c =
     let a = c.args in
     let all : length a.tasks.table.tasks ≡ most = search (rules, long_map) in
-    c.first_level-level.ensures (table_of a.tasks.table) c.requires.laid.copy (table_length a.tasks.table all)
+    c.first_level-level.ensures _ (laid_copy a.tasks a.task.0 c.requires all) (laid_size a.tasks a.task.0 c.requires all)
     ∙ laid_first a.tasks a.task.0 c.requires all
 
 pub bounds-table-i : goal.bounds-table-i
 bounds-table-i c = omega (arith, laid_place c.args.tasks c.args.task.0 c.requires (long (goal.at.bounds-table-i c).Start))
+
+pub shared_ref_as_front-first_level : goal.shared_ref_as_front-first_level
+shared_ref_as_front-first_level c = (laid_place c.args.tasks c.args.task.0 c.requires (long (goal.at.shared_ref_as_front-first_level c).Start)).2
 
 pub first_level-level-requires : goal.first_level-level-requires
 first_level-level-requires c = laid_copied c.args.tasks c.args.task.0 c.requires (long (goal.at.first_level-level-requires c).Start)
