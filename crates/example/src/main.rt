@@ -154,7 +154,7 @@ fn released(block: Block, task: u8) -> Block
     .block
 }
 
-// A release and its line; and the block after it.
+// A release and its line; and the block after it. (Named calls, for who reads the history above.)
 fn release(out: &impl Print, block: Block, count: u64, reading: u32, task: u8) -> Block
     ensures { Follows block (Release reading task) result }
 {

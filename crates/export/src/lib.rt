@@ -101,14 +101,13 @@ fn answered(called: Called, block: &mut [u8], answer: &mut [u64; 4]) -> u8
 }
 
 // A call on the block: 0, or the number of the refusal.
-fn called(block: &mut [u8], call: Call, answer: &mut [u64; 4]) -> u8
+fn call_on(block: &mut [u8], call: Call, answer: &mut [u64; 4]) -> u8
     ensures { Tells (call_in call) block.old answer.old result block.new answer.new }
 {
     if block.len() != BLOCK_BYTES {
         return refusals::NOT_WHOLE;
     }
-    let called = load(block).call(call);
-    answered(called, block, answer)
+    answered(load(block).call(call), block, answer)
 }
 
 // The three calls, each under its own name, which the C interface has.
@@ -116,20 +115,20 @@ pub fn meter_release(block: &mut [u8], reading: u32, task: u8, answer: &mut [u64
     ensures { Tells (Release reading task) block.old answer.old result block.new answer.new }
 {
     let task = TaskNo(task);
-    called(block, Call::Release { reading, task }, answer)
+    call_on(block, Call::Release { reading, task }, answer)
 }
 
 pub fn meter_done(block: &mut [u8], reading: u32, task: u8, answer: &mut [u64; 4]) -> u8
     ensures { Tells (Done reading task) block.old answer.old result block.new answer.new }
 {
     let task = TaskNo(task);
-    called(block, Call::Done { reading, task }, answer)
+    call_on(block, Call::Done { reading, task }, answer)
 }
 
 pub fn meter_clock(block: &mut [u8], reading: u32, answer: &mut [u64; 4]) -> u8
     ensures { Tells (Clock reading) block.old answer.old result block.new answer.new }
 {
-    called(block, Call::Clock { reading }, answer)
+    call_on(block, Call::Clock { reading }, answer)
 }
 
 // The number waiting; or 256 times the number of the refusal.

@@ -28,6 +28,11 @@ all_bytes bytes (x ∷ xs) = bytes x ++ all_bytes bytes xs
 abbrev pub task_bytes : Task → List ℕ
 task_bytes x = little 4 x.c ++ little 4 x.d ++ little 4 x.t
 
+-- whether there is one, and it; `free` where there is none
+abbrev pub option_bytes : {X : Type 0} → (X → List ℕ) → X → Option X → List ℕ
+option_bytes bytes free None = 0 ∷ bytes free
+option_bytes bytes free (Some x) = 1 ∷ bytes x
+
 -- whether there was a release, and its time
 abbrev pub last_bytes : Option ℕ → List ℕ
 last_bytes None = 0 ∷ little 8 0
@@ -76,6 +81,9 @@ task_from s at = record { c = word s at; d = word s (at + 4); t = word s (at + 8
 -- a byte that is not 0 says yes
 abbrev pub says : List ℕ → ℕ → Bool
 says s at = not (eqb (get_or s at 0) 0)
+
+abbrev pub option_from : {X : Type 0} → (List ℕ → ℕ → X) → List ℕ → ℕ → Option X
+option_from read s at = pick (says s at) (Some (read s (at + 1))) None
 
 abbrev pub last_from : List ℕ → ℕ → Option ℕ
 last_from s at = pick (says s at) (Some (long_word s (at + 1))) None

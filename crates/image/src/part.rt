@@ -3,7 +3,7 @@
 ghost use Rattle.std.specs.Prelude.{◌≡◌, ◌+◌, ◌*◌, ◌≤◌, ℕ, List, [], ◌∷◌, length, get_or};
 ghost use Rattle.laws.specs.Words.{digit, Puts};
 ghost use Rattle.rules.specs.Records.{word};
-ghost use Rattle.image.specs.Bytes.{little, long_word, all_bytes, all_from, says};
+ghost use Rattle.image.specs.Bytes.{little, long_word, all_bytes, all_from, option_bytes, option_from, says};
 
 use std::array;
 
@@ -49,6 +49,26 @@ pub fn take_all<T: Part, const N: usize>(bytes: &[u8], at: usize) -> [T; N]
             ensures { result ≡ T.from_bytes bytes.entry.now (at + T.SIZE * i) }
         { T::take(bytes, at + T::SIZE * i) },
     )
+}
+
+// A byte that tells whether there is a part, and the part; `free` stands where there is none.
+pub fn put_option<T: Part>(bytes: &mut [u8], at: usize, part: Option<T>, free: T)
+    requires { at + (1 + T.SIZE) ≤ length bytes.old }
+    ensures { Puts bytes.old at (option_bytes T.as_bytes free part) (at + (1 + T.SIZE)) bytes.new }
+{
+    part.is_some().put(bytes, at);
+    part.unwrap_or(free).put(bytes, at + 1);
+}
+
+pub fn take_option<T: Part>(bytes: &[u8], at: usize) -> Option<T>
+    requires { at + (1 + T.SIZE) ≤ length bytes.now }
+    ensures { result ≡ option_from T.from_bytes bytes.now at }
+{
+    if bool::take(bytes, at) {
+        Some(T::take(bytes, at + 1))
+    } else {
+        None
+    }
 }
 
 impl Part for u8 {

@@ -1,8 +1,9 @@
 // The parts of a block.
 ghost use Rattle.image.specs.Bytes.{task_bytes, task_from, task_no_bytes, task_no_from, last_bytes, last_from, job_bytes, job_from, who_bytes, who_from};
-ghost use Rattle.image.specs.Bytes.{tasks_size, tasks_bytes, tasks_from, stored_size, stored_bytes, stored_from, ready_size, ready_bytes, ready_from, now_bytes, now_from};
+ghost use Rattle.image.specs.Bytes.{tasks_size, tasks_bytes, tasks_from, stored_size, stored_bytes, stored_from};
+ghost use Rattle.image.specs.Bytes.{ready_size, ready_bytes, ready_from, now_bytes, now_from};
 
-use crate::part::{Part, put_all, take_all};
+use crate::part::{Part, put_all, put_option, take_all, take_option};
 use jobs::{Job, Tasks};
 use kernel::Now;
 use lists::{Lists, Stored};
@@ -89,19 +90,11 @@ impl Part for Option<u64> {
     ghost from_bytes = { last_from };
 
     fn put(self, bytes: &mut [u8], at: usize) {
-        let (released, time) = match self {
-            None => (false, 0),
-            Some(time) => (true, time),
-        };
-        released.put(bytes, at);
-        time.put(bytes, at + 1);
+        put_option(bytes, at, self, 0);
     }
 
     fn take(bytes: &[u8], at: usize) -> Option<u64> {
-        if bool::take(bytes, at) {
-            return Some(u64::take(bytes, at + 1));
-        }
-        None
+        take_option(bytes, at)
     }
 }
 
@@ -138,19 +131,11 @@ impl Part for Option<TaskNo> {
     ghost from_bytes = { who_from };
 
     fn put(self, bytes: &mut [u8], at: usize) {
-        let (runs, task) = match self {
-            None => (false, TaskNo(0)),
-            Some(task) => (true, task),
-        };
-        runs.put(bytes, at);
-        task.put(bytes, at + 1);
+        put_option(bytes, at, self, TaskNo(0));
     }
 
     fn take(bytes: &[u8], at: usize) -> Option<TaskNo> {
-        if bool::take(bytes, at) {
-            return Some(TaskNo::take(bytes, at + 1));
-        }
-        None
+        take_option(bytes, at)
     }
 }
 

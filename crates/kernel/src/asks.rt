@@ -1,4 +1,4 @@
-// What may be asked of a block: the listing, and a task's plan.
+// What may be asked of a block: the listing, and a task's plan. (Two, which share test 15 alone.)
 ghost use Rattle.std.specs.Prelude.{◌≡◌};
 ghost use Rattle.rules.specs.Calls.{planned_of};
 ghost use Rattle.rules.specs.Listing.{listed_of};

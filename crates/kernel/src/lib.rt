@@ -34,13 +34,13 @@ ghost use Rattle.kernel.specs.Calls.{call_in, Gives};
 use clock::ClockRefusal;
 use jobs::{Job, Moment, Tasks};
 use ready::Ready;
-use refusals::Refused;
 use table::PLACES;
 use whole::is_whole;
 
 // What a user of the calls names beside them, so that it is named by one crate.
 pub use levels::{Plan, Point};
 pub use lists::task_number;
+pub use refusals::Refused;
 pub use table::{Level, MOST, Table, TableRefusal, Task, TaskNo};
 
 pub mod start; // start

@@ -1,4 +1,5 @@
-// The tests of a call on a whole block, in the paper's order: 5, 6, 7, then 8 and 9, or 10.
+// The tests of a call on a whole block, in the paper's order: 5, 6, 7, then 8 and 9, or 10. (Functions for each call: they differ in the tests
+// behind 6.)
 ghost use Rattle.std.specs.Prelude.{◌≡◌, ◌≤◌};
 ghost use Rattle.rules.specs.Clock.{last_tick};
 ghost use Rattle.rules.specs.State.{time_of};

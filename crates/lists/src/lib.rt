@@ -85,7 +85,8 @@ fn without_bit(map: u64, level: Level) -> u64
     map & !(1u64 << (level.0 - 1))
 }
 
-// The arrays and the map, to be kept elsewhere.
+// The arrays and the map, to be kept elsewhere. (Here and below each array has a variable: an array's field that stands straight in a literal was
+// tried, and does not build.)
 impl From<Lists> for Stored {
     ghost from_gives = { λ lists stored. stored ≡ stored_of lists };
 

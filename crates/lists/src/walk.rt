@@ -64,6 +64,7 @@ impl Lists {
         ensures { (ls : ℕ → List ℕ) → Stores self ls → Puts buffer.old 0 (listing_bytes ls) result buffer.new }
     {
         let mut at: usize = 0;
+        // the level is what is listed
         for level in 1..=MOST as u8 {
             at = self.list_into(Level(level), buffer, at);
         }

@@ -133,14 +133,14 @@ fn may_lead(moment: &Moment, a: TaskNo, b: TaskNo) -> bool
     time_of(ahead.last) <= time_of(behind.last)
 }
 
-// Whether exactly the jobs that are marked are active. The loop counts places, which two arrays have.
+// Whether exactly the jobs that are marked are active.
 pub fn active_as(moment: &Moment, seen: &[bool; PLACES]) -> bool
     requires { moment.now.tasks.table.count ≤ most }
     ensures { Decides result (ActiveAs moment.now.tasks.table.count moment.now.jobs seen.now) }
 {
-    for k in 1..moment.tasks.table.count + 1 {
-        let job = moment.jobs[k];
-        if job.active != seen[k] {
+    let held = &moment.jobs[1..moment.tasks.table.count + 1];
+    for (i, job) in held.iter().enumerate() {
+        if job.active != seen[i + 1] {
             return false;
         }
     }

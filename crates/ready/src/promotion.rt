@@ -13,7 +13,8 @@ use table::{Level, MOST, TaskNo};
 // No list holds more jobs than there are tasks.
 const JOBS: u32 = MOST as u32;
 
-// What is kept after jobs have moved, and how many did.
+// What is kept after jobs have moved, and how many did. (No `Copy`: it is taken apart where it is given back, and a derived copy of a generic
+// struct is library code, which kernel/proofs/Answered does not run.)
 pub struct Promoted<T> {
     pub now: T,
     pub moves: u32,
@@ -72,6 +73,7 @@ pub fn promote(moment: &Moment, lists: Lists) -> Promoted<Lists>
     let mut now = lists;
     let mut total: u32 = 0;
     let mut from: u8 = 2;
+    // the level jumps to the next occupied list
     while from as usize <= MOST {
         match now.lowest_from(Level(from)) {
             None => {

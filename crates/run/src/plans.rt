@@ -33,6 +33,7 @@ pub fn plan_lines(tasks: Tasks, out: &mut Text)
     requires { Laid tasks × HasRoom out.old (most * plan_room most) }
     ensures { Writes out.old (plans_text (plan_lines (table_of tasks.table) (length (table_of tasks.table)) 1)) (most * plan_room most) out.new }
 {
+    // the number is what the line names
     for k in 1..=tasks.table.count {
         task_line(tasks, TaskNo(k as u8), out);
     }

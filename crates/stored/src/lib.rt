@@ -53,6 +53,7 @@ fn lists_hold(stored: Stored) -> bool
     ensures { Decides result (ListsRight (lists_of stored)) }
 {
     let mut seen = [false; PLACES];
+    // the level is what is asked
     for l in 1..PLACES {
         let Some(more) = go_along(stored, l, seen) else {
             return false;
@@ -71,6 +72,7 @@ fn go_along(stored: Stored, l: usize, before: [bool; PLACES]) -> Option<[bool; P
     let mut seen = before;
     let mut passed: u8 = 0;
     let mut x = stored.first[l];
+    // along links there is no slice to iterate over
     while x.0 != 0 {
         let n = x.0 as usize;
         if MOST < n {
