@@ -18,7 +18,7 @@ EXCHANGES = [
     ("ready", "src/lib.rt", "lists.push_front(level, task)", "lists.push_front(task, level)", ("Level", "TaskNo")),
     ("lists", "src/walk.rt", "self.list_into(Level(level), buffer, at)", "self.list_into(table::TaskNo(level), buffer, at)", ("Level", "TaskNo")),
     ("levels", "src/lib.rt", "level: Level(i as u8 + 1)", "level: table::TaskNo(i as u8 + 1)", ("Level", "TaskNo")),
-    ("kernel", "src/asks.rt", "if !in_table(table.count, task)", "if !in_table(table.count, Level(task.0))", ("TaskNo", "Level")),
+    ("kernel", "src/asks.rt", "if !in_table(table.count, task)", "if !in_table(table.count, table::Level(task.0))", ("TaskNo", "Level")),
 ]
 
 
