@@ -24,7 +24,7 @@ fn main(rt: HostRuntime) {
     refused(&rt);
 }
 
-// Document 003, Example 1.
+// Document 003, Example 1. (What prints is handed on from function to function, with the block that it prints of.)
 fn paper(out: &impl Print) {
     let none = Task { c: 0, d: 0, t: 0 };
     let mut tasks = [none; MOST];

@@ -164,7 +164,7 @@ impl Block {
         }
     }
 
-    // "release: the task's job becomes active."
+    // "release: the task's job becomes active." (Three methods, as the paper has them.)
     pub fn release(mut self, reading: u32, task: TaskNo) -> Called
         ensures { Gives self (Release reading task.0) result }
     {

@@ -34,7 +34,7 @@ mod events; // E lines
 // Room for the longest output: 2 MiB.
 pub const ROOM: usize = 2097152;
 
-// The output's length; 0, and nothing is written, where the buffer has less than ROOM.
+// The output's length; 0, and nothing is written, where the buffer has less than ROOM. (A number, as the C interface has it.)
 pub fn run(stream: &[u8], out: &mut [u8]) -> usize
     ensures { Runs stream.now out.old result out.new × (result ≤ length out.new) }
 {
