@@ -34,7 +34,7 @@ fn call_of(kind: u8, reading: u32, task: u8) -> Call
     }
 }
 
-// The inner form of a call.
+// The inner form of a call, as `Block::call` is of the public ones: each names other functions.
 fn call_whole(block: Block, call: Call) -> Called
     requires { Whole block }
     ensures { Does block (call_in call) result }

@@ -8,7 +8,7 @@ ghost use Rattle.image.specs.Bytes.{little, long_word, all_bytes, all_from, opti
 use std::array;
 
 pub trait Part: Copy {
-    // How many bytes it has.
+    // How many bytes it has, so that each part of a block stands at a place of its own.
     const SIZE: usize;
 
     ghost SIZE: { ℕ };

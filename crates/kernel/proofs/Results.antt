@@ -52,7 +52,8 @@ refusal_same Refusal.BufferTooShort = refl
 pub refusal_one : (p q : Refusal) → Numbers.number_of (refusal_in p) ≡ Numbers.number_of (refusal_in q) → p ≡ q
 refusal_one p q e = sym (refusal_same p) ∙ ap refusal_by e ∙ refusal_same q
 
-margin_one : (a b : Option ℤ) → margin_in a ≡ margin_in b → a ≡ b
+-- a margin is told by what it says
+pub margin_one : (a b : Option ℤ) → margin_in a ≡ margin_in b → a ≡ b
 margin_one None None e = refl
 margin_one None (Some t) e = clash cc
 margin_one (Some t) None e = clash cc

@@ -28,7 +28,8 @@ use table::{Level, MOST, PLACES, TaskNo};
 // Room for the listing of all tasks.
 pub const LISTING_BYTES: usize = 2 * MOST;
 
-// The running job's task, and behind it the n that wait, as the bytes list them: for each a byte for the level and one for the task.
+// The running job's task, and behind it the n that wait, as the bytes list them: for each a byte for the level and one for the task. (An
+// array and its count: there is no heap.)
 #[derive(Clone, Copy)]
 pub struct Row {
     pub first: TaskNo,

@@ -114,7 +114,7 @@ pub fn record_at(stream: &[u8], at: usize) -> Result<Option<(Record, usize)>, Un
     Ok(Some((body_at(stream, at, mark), size)))
 }
 
-// "The record reader keeps the stream it reads together with its place in it."
+// "The record reader keeps the stream it reads together with its place in it." (A place, and no rest of the stream: the rules speak of places.)
 #[derive(Clone, Copy)]
 pub struct Reader<'a> {
     pub stream: &'a [u8],

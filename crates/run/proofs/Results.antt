@@ -19,7 +19,7 @@ use Rattle.kernel.specs.declared.Block.{Block}
 use Rattle.kernel.specs.declared.Called.{Called}
 use Rattle.kernel.specs.Answers.{margin_in}
 use Rattle.kernel.specs.Block.{SameTasks, Sizes}
-use Rattle.kernel.proofs.Results.{answer_one}
+use Rattle.kernel.proofs.Results.{margin_one}
 use Rattle.kernel.proofs.Views.{blocks_one}
 use Rattle.text.specs.declared.Text.{Text}
 use Rattle.text.proofs.Writes.{SameText, writes_one}
@@ -40,14 +40,6 @@ runs_one s before r x after last = by_room (leb room (length before))
     by_room false p q = (q.0 ∙ sym p.0, q.1 ∙ sym p.1)
 
 -- ---- what the line of an event shows
-
--- a margin is told by what it says: of two answers that differ in nothing else
-margin_one : (a b : Option ℤ) → margin_in a ≡ margin_in b → a ≡ b
-margin_one a b e =
-    let with : Option ℤ → Accepted = λ m. record { running = None; moves = 0; margin = m } in
-    let same : Ok (with a) ≡ Ok (with b) = answer_one _ _ (ap (λ (g : Calls.Margin). Calls.Accepted Nobody 0 g) e) in
-    let both : with a ≡ with b = cc in
-    ap (λ (x : Accepted). x.margin) both
 
 -- what is shown has the columns of one line
 pub columns_one : (r x : Shown) → shown_as x ≡ shown_as r → x ≡ r
