@@ -6,18 +6,14 @@ use mathlib.Core.List.{List}
 use Prim.Native.Nat.{ℕ}
 use lib.Dec.{leb}
 use lib.ListN.{length}
-use Rattle.std.proofs.Common.{ℤ, Option, None, Ok}
 use Rattle.laws.proofs.Buffers.{puts_one}
 use Rattle.rules.specs.Table.{is_task}
 use Rattle.rules.specs.Calls as Calls
 use Rattle.rules.specs.Lines.{EventLine, line_of}
-use Rattle.rules.specs.State.{Nobody}
 use Rattle.table.specs.Stored.{table_of}
 use Rattle.jobs.specs.declared.Tasks.{Tasks}
-use Rattle.kernel.specs.declared.Accepted.{Accepted}
 use Rattle.kernel.specs.declared.Block.{Block}
 use Rattle.kernel.specs.declared.Called.{Called}
-use Rattle.kernel.specs.Answers.{margin_in}
 use Rattle.kernel.specs.Block.{SameTasks, Sizes}
 use Rattle.kernel.proofs.Results.{margin_one}
 use Rattle.kernel.proofs.Views.{blocks_one}
