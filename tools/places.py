@@ -2,7 +2,7 @@
 """Counts the places of docs/DESIGN-PASS.md's points in the code, crates/*/src.
 
   tools/places.py [FOLDER]        FOLDER: another checkout's top; none: this one
-  tools/places.py -l [FOLDER]     and lists them
+  tools/places.py -l [FOLDER]     and lists them, those of point 8 apart
 
 A pattern finds too much rather than too little: what it finds may be as it should be. Each line says for which point it counts:
   1  enums, and structs with a yes or no beside a value; numbers that tell a kind or a refusal

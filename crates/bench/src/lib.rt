@@ -61,6 +61,7 @@ fn sum_of<F: Fn(Block, Call) -> Called>(make: F, block: &[u8], call: Call, times
     }
     let mut sum: u64 = 0;
     let mut after = kept;
+    // so many times: there is nothing to go over
     for _ in 0..times {
         let called = make(kept, call);
         sum += named(called);

@@ -35,7 +35,7 @@ pub fn meter_run(stream: &[u8], out: &mut [u8]) -> usize
     run(stream, out)
 }
 
-// The number of a refusal of a stream or its table, and 256 times the task or offset with it.
+// The number of a refusal of a stream or its table, and 256 times the task or offset with it: one number, as the C interface has it.
 fn told<R: Refused + Copy>(refusal: R) -> usize
     requires { given (value_of (R.means refusal)) ≤ longest }
     ensures { result ≡ number_of (R.means refusal) + 256 * given (value_of (R.means refusal)) }

@@ -1,7 +1,8 @@
 // The jobs: for each task whether its job is active and when the task was last released; and from these, with the table and its rising
 // copy, deadlines and levels. A task's number is its place; place 0, and those past the table's count, are free.
 //
-// These are inner forms: what they require of the table, the copy and the release times holds of a whole block.
+// These are inner forms: what they require of the table, the copy and the release times holds of a whole block. No type says it, since a block
+// that is handed in may be none.
 #![tactic(auto)]
 
 ghost use Rattle.std.specs.Prelude.{◌≡◌, ◌&&◌, ◌≤◌, leb};

@@ -103,7 +103,7 @@ impl From<Lists> for Stored {
     }
 }
 
-// The lists again, from arrays and a map that may hold anything; crate stored tells whether they store lists.
+// The lists again (two conversions, each of its own type), from arrays and a map that may hold anything; crate stored tells whether they store lists.
 impl From<Stored> for Lists {
     ghost from_gives = { λ stored lists. lists ≡ lists_of stored };
 

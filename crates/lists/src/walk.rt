@@ -41,7 +41,7 @@ impl Lists {
     }
 
     // The list of the level into the buffer, from a place on, "one byte level, one byte task" a job; the place behind it.
-    // (A place beside the buffer: crate text, whose texts keep theirs, stands above.)
+    // (A place beside the buffer: it has one caller and one loop, and crate text, whose texts keep theirs, stands above.)
     pub fn list_into(self, level: Level, buffer: &mut [u8], place: usize) -> usize
         requires { RoomFor self level.0 place (length buffer.old) }
         ensures { (ls : ℕ → List ℕ) → Stores self ls → Puts buffer.old place (pairs_of level.0 (ls level.0)) result buffer.new }

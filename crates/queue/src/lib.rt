@@ -38,7 +38,7 @@ pub struct Row {
     ghost few: { Few n },
 }
 
-// Loops over a row count pairs of bytes: `chunks` is library code, which kernel/proofs/Answered does not run.
+// Loops over a row count pairs of bytes: `chunks_exact` is library code, which kernel/proofs/Answered does not run.
 impl Row {
     // Whether all is as it should be at this moment.
     pub fn runs_whole(&self, moment: &Moment) -> bool

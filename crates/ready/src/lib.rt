@@ -46,7 +46,8 @@ fn put_back(lists: Lists, level: Level, task: TaskNo) -> Lists
     lists.push_front(level, task)
 }
 
-// A released job meets the running one: the lower level runs, and of equals the one that runs already.
+// A released job meets the running one (two jobs with their levels, which no other function has side by side): the lower level runs, and of
+// equals the one that runs already.
 fn meet(lists: Lists, task: TaskNo, level: Level, other: TaskNo, held: Level) -> Ready
     requires { MayEnter lists level.0 task.0 × MayEnter lists held.0 other.0 }
     ensures { (ls : ℕ → List ℕ) → Stores lists ls → Keeps result (met_by task.0 level.0 other.0 held.0 ls) }

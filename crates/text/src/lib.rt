@@ -48,7 +48,7 @@ impl<'a> Text<'a> {
         self.number(n);
     }
 
-    // A signed number in decimal: its sign, which is a byte of its own, and its size.
+    // A signed number in decimal: its sign, the byte that must-fail/margin_sign is about, and its size.
     pub fn signed(&mut self, z: i64)
         requires { HasRoom self.old column_room }
         ensures { Writes self.old (signed_text z) column_room self.new }
