@@ -26,7 +26,7 @@ NAME = r"([^\s:(){}.;,]+)"
 DECLARES = re.compile(r"^\s*(?:(?:unfoldable|abbrev|pub|data|record) )*" + NAME + r"(?= |$)")
 DEFINES = re.compile(r"^ *(?:unfoldable |abbrev )?pub (?:record |data )?" + NAME + " ")
 ITEM = re.compile(r'^ *(?:pub )?(?:extern "C" )?(?:fn|struct|enum|const|trait) (\w+)', re.M)
-FUNCTION = re.compile(r'^ *(?:pub )?(?:extern "C" )?fn (\w+)\((?:[^{]|\n)*?-> [^{\n]+?(?: \{$|\n((?:.*\n)*?) *\{$)', re.M)
+FUNCTION = re.compile(r'^ *(?:pub )?(?:extern "C" )?fn (\w+)(?:<[^\n]*?>)?\((?:[^{]|\n)*?-> [^{\n]+?(?: \{$|\n((?:.*\n)*?) *\{$)', re.M)
 # An impl of a trait: its methods have the trait's contracts.
 OF_TRAIT = re.compile(r"^impl[^\n]* for [^\n]*\{\n(?:.*\n)*?\}$", re.M)
 

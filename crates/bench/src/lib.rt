@@ -4,6 +4,7 @@
 #![tactic(auto)]
 
 ghost use Rattle.std.specs.Prelude.{◌≡◌, ◌≤◌};
+ghost use Rattle.rules.specs.Calls.{Release, Done, Clock};
 ghost use Rattle.kernel.specs.Block.{Whole};
 ghost use Rattle.kernel.specs.Answers.{answer_in};
 ghost use Rattle.kernel.specs.Calls.{call_in, Does};
@@ -31,18 +32,6 @@ fn call_of(kind: u8, reading: u32, task: u8) -> Call
         0 => Call::Release { reading, task },
         1 => Call::Done { reading, task },
         _ => Call::Clock { reading },
-    }
-}
-
-// The inner form of a call, as `Block::call` is of the public ones: each names other functions.
-fn call_whole(block: Block, call: Call) -> Called
-    requires { Whole block }
-    ensures { Does block (call_in call) result }
-{
-    match call {
-        Call::Release { reading, task } => block.release_whole(reading, task),
-        Call::Done { reading, task } => block.done_whole(reading, task),
-        Call::Clock { reading } => block.clock_whole(reading),
     }
 }
 
@@ -84,5 +73,35 @@ pub fn bench_calls(block: &[u8], kind: u8, reading: u32, task: u8, times: u32) -
 pub fn bench_inner(block: &[u8], kind: u8, reading: u32, task: u8, times: u32) -> u64
     ensures { Sums block.now (call_by kind reading task) times result }
 {
-    sum_of(call_whole, block, call_of(kind, reading, task), times)
+    let call = call_of(kind, reading, task);
+    // which call it is, is looked at once and not at each of them
+    match call {
+        Call::Release { reading, task } => sum_of(
+            |b: Block, _: Call| -> Called
+                requires { Whole b }
+                ensures { Does b (Release reading task.0) result }
+            { b.release_whole(reading, task) },
+            block,
+            call,
+            times,
+        ),
+        Call::Done { reading, task } => sum_of(
+            |b: Block, _: Call| -> Called
+                requires { Whole b }
+                ensures { Does b (Done reading task.0) result }
+            { b.done_whole(reading, task) },
+            block,
+            call,
+            times,
+        ),
+        Call::Clock { reading } => sum_of(
+            |b: Block, _: Call| -> Called
+                requires { Whole b }
+                ensures { Does b (Clock reading) result }
+            { b.clock_whole(reading) },
+            block,
+            call,
+            times,
+        ),
+    }
 }

@@ -2,6 +2,7 @@
 // its own (tools/cases.py); it is compared with the file stdout.
 #![tactic(auto)]
 
+use files::Watched;
 use std::env;
 use std::fs::File;
 
@@ -19,11 +20,12 @@ fn main(rt: HostRuntime) {
 // The case of this name: its name, and its lines from the file that holds its stream.
 fn case(rt: &HostRuntime, name: &str) {
     let _ = println!(rt; "== {name}");
-    let ended = File::open(rt, name).and_then(|mut file| Ok(files::run_all(
-        &mut file,
-        &mut rt.stdout(),
-    )?));
+    let mut to = Watched {
+        inner: rt.stdout(),
+        error: None,
+    };
+    let ended = File::open(rt, name).and_then(|mut file| Ok(files::run_all(&mut file, &mut to)?));
     if let Err(e) = ended {
-        files::fail(rt, name, e);
+        files::fail(rt, name, to.last(e));
     }
 }

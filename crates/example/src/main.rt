@@ -2,8 +2,6 @@
 // address, and the block of a refused start. What is written is compared with the file stdout, which is written from the paper.
 #![tactic(auto)]
 
-ghost use Rattle.std.specs.Prelude.{◌≡◌, IfOk, IfErr};
-ghost use Rattle.rules.specs.Numbers.{number_of};
 ghost use Rattle.rules.specs.Calls.{Release, Done, Clock};
 ghost use Rattle.kernel.specs.Calls.{call_in, Follows};
 
@@ -11,7 +9,7 @@ use kernel::start::start;
 use kernel::{Block, Call, Called, MOST, Plan, Table, Task, TaskNo, task_number};
 use lent::call_through;
 use lines::{Shown, event_line};
-use refusals::Refused;
+use refusals::number_in;
 use std::io;
 use std::io::Write;
 use text::Text;
@@ -119,23 +117,13 @@ fn refused(out: &impl Print) {
     };
     let started = start(empty, 0);
     let block = started.block;
-    number(out, number_of(started.verdict) as u64);
+    number(out, number_in(started.verdict) as u64);
     let called = call_through(block, Call::Clock { reading: 0 });
-    column(out, number_of(called.answer) as u64);
+    column(out, number_in(called.answer) as u64);
     let mut room = [0u8; 2 * MOST];
-    column(out, number_of(block.listing(&mut room)) as u64);
-    column(out, number_of(block.plan(TaskNo(1))) as u64);
+    column(out, number_in(block.listing(&mut room)) as u64);
+    column(out, number_in(block.plan(TaskNo(1))) as u64);
     text(out, b"\n");
-}
-
-// "No.", and 0 where there is no refusal.
-fn number_of<T: Copy, R: Refused + Copy>(answer: Result<T, R>) -> u8
-    ensures { IfOk answer (λ x. result ≡ 0) × IfErr answer (λ r. result ≡ number_of (R.means r)) }
-{
-    match answer {
-        Ok(_) => 0,
-        Err(refusal) => refusal.number(),
-    }
 }
 
 // ---- calls by the block's address
@@ -204,7 +192,7 @@ fn event(out: &impl Print, count: u64, called: Called) {
         out,
         Shown {
             count,
-            answer: number_of(called.answer) as u64,
+            answer: number_in(called.answer) as u64,
             running: task_number(running) as u64,
             moves: moves as u64,
             waiting: waiting as u64,
@@ -228,7 +216,7 @@ fn line(out: &impl Print, shown: Shown) {
 fn plan_line(out: &impl Print, block: Block, task: u8) {
     number(out, task as u64);
     let planned = block.plan(TaskNo(task));
-    column(out, number_of(planned) as u64);
+    column(out, number_in(planned) as u64);
     if let Ok(plan) = planned {
         points(out, plan);
     }
@@ -248,7 +236,7 @@ fn points(out: &impl Print, plan: Plan) {
 fn listing(out: &impl Print, block: Block, buffer: &mut [u8]) {
     number(out, buffer.len() as u64);
     let listed = block.listing(buffer);
-    column(out, number_of(listed) as u64);
+    column(out, number_in(listed) as u64);
     match listed {
         Ok(n) => column(out, n as u64),
         Err(_) => text(out, b" -"),

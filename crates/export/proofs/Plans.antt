@@ -1,5 +1,5 @@
 -- A plan in numbers: put into a lent array, point by point, and what the door for a plan gives back. Assumes nothing.
-use Rattle.std.proofs.Common.{◌≡◌, ℕ, ◌+◌, ◌*◌, ◌≤◌, ◌<◌, Bool, true, false, List, [], ◌∷◌, ◌++◌, Ok, Err, refl, ap, subst, ◌∙◌}
+use Rattle.std.proofs.Common.{◌≡◌, ℕ, ◌+◌, ◌*◌, ◌≤◌, ◌<◌, Bool, true, false, List, [], ◌∷◌, ◌++◌, Result, Ok, Err, refl, ap, subst, ◌∙◌}
 use native.Mathlib.Numerals.{add-one}
 use native.Mathlib.Omega.{arith}
 use borrow.Author.Tests.{eq-eqb}
@@ -8,7 +8,7 @@ use lib.Seq.{drop-cons, length-take-le}
 use Rattle.laws.specs.Words.{Decides, pick}
 use Rattle.laws.proofs.Buffers.{Filling, filling_turn, filling_puts, puts_none, puts_to}
 use Rattle.laws.proofs.Bools.{clash}
-use Rattle.rules.specs.Numbers.{Refusal, NotWhole, Verdict, Passed, Failed, first_of, number_of}
+use Rattle.rules.specs.Numbers.{Refusal, NotWhole, Verdict, Passed, Failed, first_of, number_of, number_in}
 use Rattle.rules.specs.Table.{most, task_at, tests_to3}
 use Rattle.rules.specs.Levels.{Point, plan_of}
 use Rattle.rules.specs.State.{State}
@@ -21,7 +21,7 @@ use Rattle.kernel.specs.declared.Block.{Block}
 use Rattle.kernel.specs.declared.Refusal as Given
 use Rattle.kernel.specs.Block.{view_of, Whole}
 use Rattle.kernel.specs.Answers.{refusal_in}
-use Rattle.kernel.specs.Asks.{PlansAs, GivesPlan}
+use Rattle.kernel.specs.Asks.{asked_in, PlansAs, GivesPlan}
 use Rattle.kernel.proofs.Fifteen.{then_15}
 use Rattle.image.specs.Bytes.{size, block_in}
 use Rattle.export.specs.Door.{number_by, point_numbers, plan_numbers, PlanPut, TellsPlan}
@@ -75,6 +75,11 @@ plan_few b k p g = go g.whole g.decides g.then
     go : (w : Bool) → Decides w (Whole b) → PlansAs (pick w (planned_of (view_of b) k) (planned_by (view_of b) k (Failed NotWhole))) (Ok p) → p.count ≤ most
     go true w x = omega (arith, ap (λ (q : Plan). q.count) x.plan ∙ points_count _, planned_few (view_of b) k w.tasks_whole.table)
     go false w x = omega (arith, ap (λ (q : Plan). q.count) x.plan ∙ points_count _)
+
+-- the number of one that was refused
+number_not_given : (a : Result Plan Given.Refusal) → ((p : Plan) → a ≡ Ok p → ⊥) → (n : ℕ) → 256 * number_in (asked_in a) ≡ number_by n (asked_in a)
+number_not_given (Ok p) h n = absurd (h p refl)
+number_not_given (Err r) h n = refl
 
 -- a plan that was refused has no points
 refused_none : (s : State) (k : ℕ) (q : Refusal) (w : Bool) → Failed q ≡ (pick w (planned_of s k) (planned_by s k (Failed NotWhole))).verdict

@@ -2,7 +2,8 @@
 // write that fails is told, and where a reader's or a writer's bytes are known, so is what becomes of them.
 #![tactic(auto)]
 
-ghost use Rattle.std.specs.Prelude.{◌≡◌, ◌⊎◌, take, length, IfOk, OnOk, IfErr, IfSome};
+ghost use Rattle.std.specs.Prelude.{◌≡◌, ◌⊎◌, take, length, IfOk, OnOk, IfErr, IfSome, IfNone};
+ghost use Rattle.std.specs.IoError.{error_kind, raw_os_error, os_error_kind};
 ghost use Rattle.std.specs.Io.KnownBytes.{Consumes, Appends};
 ghost use Rattle.rules.specs.Runner.{output_of};
 ghost use Rattle.files.specs.declared.Failure.TheVariants.{Reading, Writing};
@@ -75,6 +76,46 @@ impl From<Failure> for io::Error {
     fn from(failure: Failure) -> io::Error {
         match failure {
             Failure::Reading(e) | Failure::Writing(e) => e,
+        }
+    }
+}
+
+// ---- why a write failed
+
+// A writer, and the system's number of the last error that it gave. A write that was interrupted is tried again, and what ends the trying may
+// have no number of its own.
+#[derive(Drop)]
+pub struct Watched<W> {
+    pub inner: W,
+    pub error: Option<i32>,
+}
+
+impl<W: Write> Write for Watched<W> {
+    fn write(&mut self, bytes: &[u8]) -> io::Result<usize> {
+        match self.inner.write(bytes) {
+            Ok(n) => Ok(n),
+            Err(e) => {
+                self.error = e.raw_os_error();
+                Err(e)
+            }
+        }
+    }
+
+    fn flush(&mut self) -> io::Result<()> {
+        self.inner.flush()
+    }
+}
+
+impl<W> Watched<W> {
+    // The last error that the writer gave, or this one where it gave none with a number.
+    pub fn last(&self, other: io::Error) -> io::Error
+        ensures none { IfNone self.now.error (result ≡ other) }
+        ensures code { IfSome self.now.error (λ code. raw_os_error result ≡ Some code) }
+        ensures kind { IfSome self.now.error (λ code. error_kind result ≡ os_error_kind code) }
+    {
+        match self.error {
+            None => other,
+            Some(code) => io::Error::from_raw_os_error(code),
         }
     }
 }

@@ -60,19 +60,17 @@ impl Block {
         requires { Goes self (Release reading task.0) time }
         ensures { Does self (Release reading task.0) result }
     {
-        let mut moment = self.at(time);
+        let moment = self.at(time);
         let Promoted {
             now: waiting,
             moves,
         } = self.ready.relevel(&moment);
         let k = task.0 as usize;
-        moment.jobs[k] = Job {
+        self.jobs[k] = Job {
             active: true,
             last: Some(time),
         };
-        let after = waiting.enter(&moment, task);
-        let jobs = moment.jobs; // through a variable, as the check asks of an array
-        self.jobs = jobs;
+        let after = waiting.enter(&self.at(time), task);
         self.accepted(after, time, reading, moves, None)
     }
 

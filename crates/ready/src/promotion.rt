@@ -1,6 +1,6 @@
 // Promotion in place (document 003, 4.2.2): occupied lists from level 2 up, each from its front. From the highest level down, later
 // deadlines would land in front.
-ghost use Rattle.std.specs.Prelude.{◌≡◌, List, ℕ};
+ghost use Rattle.std.specs.Prelude.{◌≡◌, List, ℕ, ⊤};
 ghost use Rattle.lists.specs.Links.{Stores};
 ghost use Rattle.jobs.specs.Kept.{levels_in};
 ghost use Rattle.ready.specs.Promote.{goes_to, front_goes, Leaves, Promotable, Drainable, DrainedTo, PromotedTo};
@@ -8,21 +8,34 @@ ghost use Rattle.ready.specs.Promote.{goes_to, front_goes, Leaves, Promotable, D
 use jobs::Moment;
 use levels::{has_left, level_in};
 use lists::Lists;
+use std::alloc::AllocError;
 use table::{Level, MOST, TaskNo};
 
 // No list holds more jobs than there are tasks.
 const JOBS: u32 = MOST as u32;
 
-// What is kept after jobs have moved, and how many did. (No `Copy`: it is taken apart where it is given back, and a derived copy of a generic
-// struct is library code, which kernel/proofs/Answered does not run.)
+// What is kept after jobs have moved, and how many did. (A copy is the language's own: a derived one clones field by field, by library code,
+// which kernel/proofs/Answered does not run.)
 pub struct Promoted<T> {
     pub now: T,
     pub moves: u32,
 }
 
+impl<T: Copy> Clone for Promoted<T> {
+    ghost is_clone = { λ p q. q ≡ p };
+
+    ghost is_infallible = { λ _. ⊤ };
+
+    fn clone(&self) -> Result<Promoted<T>, AllocError> {
+        Ok(*self)
+    }
+}
+
+impl<T: Copy> Copy for Promoted<T> {}
+
 // The level that the job of this task, which waits at this level, leaves it for; nothing where it stays.
 fn next_of(moment: &Moment, level: Level, task: TaskNo) -> Option<Level>
-    requires { Leaves moment.now.tasks moment.now.jobs moment.now.time level.0 task.0 }
+    requires { Leaves moment.now.tasks.now moment.now.jobs.now moment.now.time level.0 task.0 }
     ensures { result ≡ goes_to level.0 (levels_in moment.now task.0) }
 {
     let left = moment.time_left(task);
@@ -35,7 +48,7 @@ fn next_of(moment: &Moment, level: Level, task: TaskNo) -> Option<Level>
 
 // The same for the front job of the level's list, where there is one.
 fn front_next(moment: &Moment, lists: Lists, level: Level) -> Option<Level>
-    requires { Drainable moment.now.tasks moment.now.jobs moment.now.time lists level.0 }
+    requires { Drainable moment.now.tasks.now moment.now.jobs.now moment.now.time lists level.0 }
     ensures { (ls : ℕ → List ℕ) → Stores lists ls → result ≡ front_goes (levels_in moment.now) level.0 (ls level.0) }
 {
     match lists.front(level) {
@@ -46,7 +59,7 @@ fn front_next(moment: &Moment, lists: Lists, level: Level) -> Option<Level>
 
 // The front jobs of the level's list go to the ends of the lists of their new levels, up to the first that stays.
 fn drain(moment: &Moment, lists: Lists, level: Level) -> Promoted<Lists>
-    requires { Drainable moment.now.tasks moment.now.jobs moment.now.time lists level.0 }
+    requires { Drainable moment.now.tasks.now moment.now.jobs.now moment.now.time lists level.0 }
     ensures { (ls : ℕ → List ℕ) → Stores lists ls → DrainedTo (levels_in moment.now) level.0 ls result }
 {
     let mut now = lists;
@@ -67,7 +80,7 @@ fn drain(moment: &Moment, lists: Lists, level: Level) -> Promoted<Lists>
 
 // Every waiting job goes to the list of its new level.
 pub fn promote(moment: &Moment, lists: Lists) -> Promoted<Lists>
-    requires { Promotable moment.now.tasks moment.now.jobs moment.now.time lists }
+    requires { Promotable moment.now.tasks.now moment.now.jobs.now moment.now.time lists }
     ensures { (ls : ℕ → List ℕ) → Stores lists ls → PromotedTo (levels_in moment.now) ls result }
 {
     let mut now = lists;

@@ -2,7 +2,7 @@
 // that it can give; as `Refused` it names one of these, and is proved to give the rules' number. docs/refusals.txt says what each means.
 #![tactic(auto)]
 
-ghost use Rattle.std.specs.Prelude.{◌≡◌};
+ghost use Rattle.std.specs.Prelude.{◌≡◌, IfOk, IfErr};
 ghost use Rattle.rules.specs.Numbers.{Refusal, number_of, value_of, given};
 
 // A refusal of one of the parts.
@@ -17,6 +17,26 @@ pub trait Refused {
     // "With it": a task or an offset; 0 where there is neither.
     fn given(self) -> usize
         ensures { result ≡ given (value_of (means self)) };
+}
+
+// The number of an answer: 0 where nothing is refused.
+pub fn number_in<T: Copy, R: Refused + Copy>(answer: Result<T, R>) -> u8
+    ensures { IfOk answer (λ x. result ≡ 0) × IfErr answer (λ r. result ≡ number_of (R.means r)) }
+{
+    match answer {
+        Ok(_) => 0,
+        Err(refusal) => refusal.number(),
+    }
+}
+
+// What is given with it: 0 where nothing is refused.
+pub fn given_with<T: Copy, R: Refused + Copy>(answer: Result<T, R>) -> usize
+    ensures { IfOk answer (λ x. result ≡ 0) × IfErr answer (λ r. result ≡ given (value_of (R.means r))) }
+{
+    let Err(refusal) = answer else {
+        return 0;
+    };
+    refusal.given()
 }
 
 // Numbers, as they are printed, and given over the C interface; inside, a refusal is a case of an enum.

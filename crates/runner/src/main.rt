@@ -3,7 +3,7 @@
 // It says on descriptor 3 how it ended, `accepted` or `refused`, and nothing there where it could not read or write.
 #![tactic(auto)]
 
-use files::{Ended, Failure};
+use files::{Ended, Failure, Watched};
 use std::fs;
 use std::fs::OpenOptions;
 use std::io::{ErrorKind, Write};
@@ -13,14 +13,18 @@ use std::process::ExitCode;
 const BROKEN_PIPE: u8 = 141;
 
 fn main(rt: HostRuntime) -> ExitCode {
-    match files::run_all(&mut rt.stdin(), &mut rt.stdout()) {
+    let mut to = Watched {
+        inner: rt.stdout(),
+        error: None,
+    };
+    match files::run_all(&mut rt.stdin(), &mut to) {
         Ok(Ended::Accepted) => say(&rt, b"accepted\n"),
         Ok(Ended::Refused) => say(&rt, b"refused\n"),
         Err(Failure::Reading(e)) => files::fail(&rt, "meter: standard input", e),
         Err(Failure::Writing(e)) if e.kind() == ErrorKind::BrokenPipe => {
             return ExitCode::from(BROKEN_PIPE);
         }
-        Err(Failure::Writing(e)) => files::fail(&rt, "meter: standard output", e),
+        Err(Failure::Writing(e)) => files::fail(&rt, "meter: standard output", to.last(e)),
     }
     ExitCode::SUCCESS
 }

@@ -3,7 +3,7 @@ use Rattle.std.proofs.Common.{◌≡◌, ℕ, ◌≤◌, List, Result, Ok, Err, 
 use Rattle.std.specs.Prelude.{⊤}
 use lib.Dec.{eqb}
 use Rattle.laws.specs.Words.{pick}
-use Rattle.rules.specs.Numbers.{longest, number_in, given_with}
+use Rattle.rules.specs.Numbers.{Refusal, Failed, longest, number_in, given_with}
 use Rattle.rules.specs.Records.{stream_of}
 use Rattle.rules.proofs.Readable.{stream_numbers}
 use Rattle.stream.specs.declared.StreamRefusal.{StreamRefusal}
@@ -28,6 +28,12 @@ numbers_one a b n k = sym (stream_same a) ∙ ap₂ stream_by n k ∙ stream_sam
 -- and so does what it says
 pub stream_one : (a b : Result ⊤ StreamRefusal) → stream_in a ≡ stream_in b → a ≡ b
 stream_one a b e = numbers_one a b (ap number_in e) (ap given_with e)
+
+-- ---- an answer that is not `Ok` is a refusal
+
+pub not_readable : (t : Result ⊤ StreamRefusal) → (t ≡ Ok tt → ⊥) → (q : Refusal) × (stream_in t ≡ Failed q)
+not_readable (Ok _) h = absurd (h refl)
+not_readable (Err r) h = (_, refl)
 
 -- ---- the offset with it is small
 
