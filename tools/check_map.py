@@ -26,7 +26,7 @@ NAME = r"([^\s:(){}.;,]+)"
 DECLARES = re.compile(r"^\s*(?:(?:unfoldable|abbrev|pub|data|record) )*" + NAME + r"(?= |$)")
 DEFINES = re.compile(r"^ *(?:unfoldable |abbrev )?pub (?:record |data )?" + NAME + " ")
 ITEM = re.compile(r'^ *(?:pub )?(?:extern "C" )?(?:fn|struct|enum|const|trait) (\w+)', re.M)
-FUNCTION = re.compile(r'^ *(?:pub )?(?:extern "C" )?fn (\w+)(?:<[^\n]*?>)?\((?:[^{]|\n)*?-> [^{\n]+?(?: \{$|\n((?:.*\n)*?) *\{$)', re.M)
+HEAD = re.compile(r'^ *(?:pub )?(?:extern "C" )?fn (\w+)[<(]', re.M)
 # An impl of a trait: its methods have the trait's contracts.
 OF_TRAIT = re.compile(r"^impl[^\n]* for [^\n]*\{\n(?:.*\n)*?\}$", re.M)
 
@@ -93,10 +93,21 @@ def missing(marks):
     return [mark for mark in wanted if mark not in here]
 
 
+def functions(text):
+    """The functions of a file of code, each with what stands ahead of its body, or ahead of the `;` by which a trait leaves it open."""
+    for m in HEAD.finditer(text):
+        head = []
+        for line in text[m.start():].split("\n"):
+            head.append(line)
+            if line.endswith(("{", ";", "{}")):
+                break
+        yield m.group(1), "\n".join(head)
+
+
 def silent():
     """The functions that return something and have no `ensures`; a program's main returns its exit status, of which none speaks."""
-    return [f"{path.relative_to(ROOT)}: {m.group(1)} says nothing of what it returns" for path in sorted(ROOT.glob("crates/*/src/*.rt"))
-            for m in FUNCTION.finditer(OF_TRAIT.sub("", path.read_text())) if "ensures" not in (m.group(2) or "") and m.group(1) != "main"]
+    return [f"{path.relative_to(ROOT)}: {name} says nothing of what it returns" for path in sorted(ROOT.glob("crates/*/src/*.rt"))
+            for name, head in functions(OF_TRAIT.sub("", path.read_text())) if ") -> " in head and "ensures" not in head and name != "main"]
 
 
 def twice():

@@ -91,6 +91,8 @@ pub struct Watched<W> {
 }
 
 impl<W: Write> Write for Watched<W> {
+    ghost contents = { λ watched. W.contents watched.inner };
+
     fn write(&mut self, bytes: &[u8]) -> io::Result<usize> {
         match self.inner.write(bytes) {
             Ok(n) => Ok(n),

@@ -8,9 +8,6 @@ use Rattle.rules.specs.Table.{most}
 use Rattle.kernel.proofs.Commits.{ticks, promotable, releveled_moves, releveled_keeps, place, running_task, running_dated, margin_held, ended_does}
 use Rattle.kernel.proofs.Block.ended.Goals as goal
 
-pub at-moment-requires : goal.at-moment-requires
-at-moment-requires c = search (rules, long_map)
-
 pub time_left-margin-requires : goal.time_left-margin-requires
 time_left-margin-requires c = let e = c.at-moment.ensures in rw (e.0, e.1, e.2) (running_dated c.requires)
 

@@ -1,10 +1,6 @@
 use borrow.Author.Rules.{rules}
-use Rattle.laws.proofs.Arrays.{long_map}
 use Rattle.kernel.proofs.Commits.{ticks, promotable, releveled_moves, releveled_keeps, moved_does}
 use Rattle.kernel.proofs.Block.moved.Goals as goal
-
-pub at-requires : goal.at-requires
-at-requires c = search (rules, long_map)
 
 pub relevel-moves-requires : goal.relevel-moves-requires
 relevel-moves-requires c =

@@ -8,12 +8,6 @@ use Rattle.rules.specs.Table.{most}
 use Rattle.kernel.proofs.Commits.{ticks, promotable, releveled_moves, releveled_keeps, place, released_task, enterable, begun_does}
 use Rattle.kernel.proofs.Block.released.Goals as goal
 
-pub at-moment-requires : goal.at-moment-requires
-at-moment-requires c = search (rules, long_map)
-
-pub at-requires : goal.at-requires
-at-requires c = search (rules, long_map)
-
 pub relevel-moves-requires : goal.relevel-moves-requires
 relevel-moves-requires c =
     let e = c.at-moment.ensures in
