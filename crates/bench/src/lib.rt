@@ -4,20 +4,19 @@
 #![tactic(auto)]
 
 ghost use Rattle.std.specs.Prelude.{◌≡◌, ◌≤◌};
-ghost use Rattle.rules.specs.Calls.{Release, Done, Clock};
 ghost use Rattle.kernel.specs.Block.{Whole};
 ghost use Rattle.kernel.specs.Answers.{answer_in};
 ghost use Rattle.kernel.specs.Calls.{call_in, Does};
 ghost use Rattle.bench.specs.Sums.{call_by, named_in, Sums};
 
 use image::{BLOCK_BYTES, load};
-use kernel::{Block, Call, Called, TaskNo, task_number};
+use kernel::{Accepted, Block, Call, Called, Refusal, TaskNo, task_number};
 
 // The task that an answer names; 0 where it names none.
-fn named(called: Called) -> u64
-    ensures { (result ≡ named_in (answer_in called.answer)) × (result ≤ 255) }
+fn named(answer: Result<Accepted, Refusal>) -> u64
+    ensures { (result ≡ named_in (answer_in answer)) × (result ≤ 255) }
 {
-    match called.answer {
+    match answer {
         Err(_) => 0,
         Ok(accepted) => task_number(accepted.running) as u64,
     }
@@ -32,6 +31,18 @@ fn call_of(kind: u8, reading: u32, task: u8) -> Call
         0 => Call::Release { reading, task },
         1 => Call::Done { reading, task },
         _ => Call::Clock { reading },
+    }
+}
+
+// The inner form of a call, as `Block::call` is of the public ones: each names other functions.
+fn call_whole(block: Block, call: Call) -> Called
+    requires { Whole block }
+    ensures { Does block (call_in call) result }
+{
+    match call {
+        Call::Release { reading, task } => block.release_whole(reading, task),
+        Call::Done { reading, task } => block.done_whole(reading, task),
+        Call::Clock { reading } => block.clock_whole(reading),
     }
 }
 
@@ -52,9 +63,12 @@ fn sum_of<F: Fn(Block, Call) -> Called>(make: F, block: &[u8], call: Call, times
     let mut after = kept;
     // so many times: there is nothing to go over
     for _ in 0..times {
-        let called = make(kept, call);
-        sum += named(called);
-        after = called.block;
+        let Called {
+            answer,
+            block: next,
+        } = make(kept, call);
+        sum += named(answer);
+        after = next;
     }
     if !after.whole() {
         return 0; // not reached
@@ -73,35 +87,5 @@ pub fn bench_calls(block: &[u8], kind: u8, reading: u32, task: u8, times: u32) -
 pub fn bench_inner(block: &[u8], kind: u8, reading: u32, task: u8, times: u32) -> u64
     ensures { Sums block.now (call_by kind reading task) times result }
 {
-    let call = call_of(kind, reading, task);
-    // which call it is, is looked at once and not at each of them
-    match call {
-        Call::Release { reading, task } => sum_of(
-            |b: Block, _: Call| -> Called
-                requires { Whole b }
-                ensures { Does b (Release reading task.0) result }
-            { b.release_whole(reading, task) },
-            block,
-            call,
-            times,
-        ),
-        Call::Done { reading, task } => sum_of(
-            |b: Block, _: Call| -> Called
-                requires { Whole b }
-                ensures { Does b (Done reading task.0) result }
-            { b.done_whole(reading, task) },
-            block,
-            call,
-            times,
-        ),
-        Call::Clock { reading } => sum_of(
-            |b: Block, _: Call| -> Called
-                requires { Whole b }
-                ensures { Does b (Clock reading) result }
-            { b.clock_whole(reading) },
-            block,
-            call,
-            times,
-        ),
-    }
+    sum_of(call_whole, block, call_of(kind, reading, task), times)
 }

@@ -37,10 +37,10 @@ levels_at tasks jobs time = Rules.levels_of (table_of tasks.table) (released_in 
 
 -- the same of what is kept, and the deadlines
 abbrev pub levels_in : Moment → ℕ → ℕ
-levels_in m = levels_at m.tasks.now m.jobs.now m.time
+levels_in m = levels_at m.tasks m.jobs m.time
 
 abbrev pub deadlines_in : Moment → ℕ → ℕ
-deadlines_in m = Rules.deadline_of (table_of m.tasks.now.table) (released_in m.tasks.now.table m.jobs.now)
+deadlines_in m = Rules.deadline_of (table_of m.tasks.table) (released_in m.tasks.table m.jobs)
 
 -- ---- what is asked
 

@@ -50,10 +50,10 @@ pub fn time_of(last: Option<u64>) -> u64
     }
 }
 
-impl<'a> Moment<'a> {
+impl Moment {
     // "A job released at time r has absolute deadline r + D"
     pub fn deadline(&self, task: TaskNo) -> u64
-        requires { Dated self.now.tasks.now.table self.now.jobs.now task.0 }
+        requires { Dated self.now.tasks.table self.now.jobs task.0 }
         ensures { result ≡ deadlines_in self.now task.0 }
     {
         let k = task.0 as usize;
@@ -62,7 +62,7 @@ impl<'a> Moment<'a> {
 
     // The time that remains to the deadline of the task's job.
     pub fn time_left(&self, task: TaskNo) -> i64
-        requires { Dated self.now.tasks.now.table self.now.jobs.now task.0 × (self.now.time ≤ last_tick) }
+        requires { Dated self.now.tasks.table self.now.jobs task.0 × (self.now.time ≤ last_tick) }
         ensures { result ≡ remaining_of (deadlines_in self.now task.0) self.now.time }
     {
         remaining(self.deadline(task), self.time)
@@ -70,7 +70,7 @@ impl<'a> Moment<'a> {
 
     // The level of the task's job.
     pub fn level_of(&self, task: TaskNo) -> Level
-        requires { Levelled self.now.tasks.now self.now.jobs.now self.now.time task.0 }
+        requires { Levelled self.now.tasks self.now.jobs self.now.time task.0 }
         ensures { result.0 ≡ levels_in self.now task.0 }
     {
         let left = self.time_left(task);

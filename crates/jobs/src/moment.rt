@@ -5,12 +5,12 @@ ghost use Rattle.rules.specs.Table.{most};
 use super::{Job, Tasks};
 use table::PLACES;
 
-// The tasks and their jobs at a time, both lent, so that no array is copied on the way. That the table has all its places, as its type says, is
-// named, since the check does not look so deep behind a reference.
+// The tasks and their jobs at a time. It is lent, so that no array is copied on the way. That the table has all its places, as its type
+// says, is named, since the check does not look so deep behind a reference.
 #[derive(Clone, Copy)]
-pub struct Moment<'a> {
-    pub tasks: &'a Tasks,
-    pub jobs: &'a [Job; PLACES],
+pub struct Moment {
+    pub tasks: Tasks,
+    pub jobs: [Job; PLACES],
     pub time: u64,
-    ghost sized: { length tasks.now.table.tasks ≡ most },
+    ghost sized: { length tasks.table.tasks ≡ most },
 }

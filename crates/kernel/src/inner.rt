@@ -60,17 +60,19 @@ impl Block {
         requires { Goes self (Release reading task.0) time }
         ensures { Does self (Release reading task.0) result }
     {
-        let moment = self.at(time);
+        let mut moment = self.at(time);
         let Promoted {
             now: waiting,
             moves,
         } = self.ready.relevel(&moment);
         let k = task.0 as usize;
-        self.jobs[k] = Job {
+        moment.jobs[k] = Job {
             active: true,
             last: Some(time),
         };
-        let after = waiting.enter(&self.at(time), task);
+        let after = waiting.enter(&moment, task);
+        let jobs = moment.jobs; // through a variable, as the check asks of an array
+        self.jobs = jobs;
         self.accepted(after, time, reading, moves, None)
     }
 

@@ -23,9 +23,8 @@
 // deadlines again to compare the copy.
 #![tactic(auto)]
 
-ghost use Rattle.std.specs.Prelude.{◌≡◌, length};
+ghost use Rattle.std.specs.Prelude.{◌≡◌};
 ghost use Rattle.laws.specs.Words.{Decides};
-ghost use Rattle.rules.specs.Table.{most};
 ghost use Rattle.rules.specs.Calls.{Release, Done, Clock};
 ghost use Rattle.clock.specs.Advance.{clock_refusal_in};
 ghost use Rattle.kernel.specs.Block.{Whole};
@@ -135,15 +134,14 @@ pub struct Called {
 }
 
 impl Block {
-    // The tasks and jobs of the block at a time, for those who are lent a moment. That the table has all its places, as its type says, the caller
-    // sees, who has the block: the check does not look so deep behind a reference.
-    fn at(&self, time: u64) -> Moment
-        requires { length self.now.tasks.table.tasks ≡ most }
-        ensures { (result.tasks.now ≡ self.entry.now.tasks) × (result.jobs.now ≡ self.entry.now.jobs) × (result.time ≡ time) }
+    // The tasks and jobs of the block at a time, for those who are lent a moment.
+    fn at(self, time: u64) -> Moment
+        ensures { (result.tasks ≡ self.tasks) × (result.jobs ≡ self.jobs) × (result.time ≡ time) }
     {
+        let jobs = self.jobs; // through a variable, as the check asks of an array
         Moment {
-            tasks: &self.tasks,
-            jobs: &self.jobs,
+            tasks: self.tasks,
+            jobs,
             time,
         }
     }

@@ -42,8 +42,8 @@ pub struct Row {
 impl Row {
     // Whether all is as it should be at this moment.
     pub fn runs_whole(&self, moment: &Moment) -> bool
-        requires { Datable moment.now.tasks.now moment.now.jobs.now moment.now.time }
-        ensures { Decides result (RunsWhole moment.now.tasks.now moment.now.jobs.now moment.now.time self.now.first.0 self.now.bytes self.now.n) }
+        requires { Datable moment.now.tasks moment.now.jobs moment.now.time }
+        ensures { Decides result (RunsWhole moment.now.tasks moment.now.jobs moment.now.time self.now.first.0 self.now.bytes self.now.n) }
     {
         if !in_table(moment.tasks.table.count, self.first) {
             return false;
@@ -59,8 +59,8 @@ impl Row {
 
     // Whether a job that waits is that of a task in the table, not the running one, and in the list of its level at this moment.
     fn waits_right(&self, moment: &Moment, level: Level, task: TaskNo) -> bool
-        requires { Datable moment.now.tasks.now moment.now.jobs.now moment.now.time }
-        ensures { Decides result (WaitsRight moment.now.tasks.now moment.now.jobs.now moment.now.time self.now.first.0 level.0 task.0) }
+        requires { Datable moment.now.tasks moment.now.jobs moment.now.time }
+        ensures { Decides result (WaitsRight moment.now.tasks moment.now.jobs moment.now.time self.now.first.0 level.0 task.0) }
     {
         if !in_table(moment.tasks.table.count, task) {
             return false;
@@ -75,8 +75,8 @@ impl Row {
 
     // Whether that is so of each job that waits.
     fn all_wait(&self, moment: &Moment) -> bool
-        requires { Datable moment.now.tasks.now moment.now.jobs.now moment.now.time }
-        ensures { Decides result (AllWait moment.now.tasks.now moment.now.jobs.now moment.now.time self.now.first.0 self.now.bytes self.now.n) }
+        requires { Datable moment.now.tasks moment.now.jobs moment.now.time }
+        ensures { Decides result (AllWait moment.now.tasks moment.now.jobs moment.now.time self.now.first.0 self.now.bytes self.now.n) }
     {
         for i in 0..self.n {
             let l = self.bytes[2 * i];
@@ -90,8 +90,8 @@ impl Row {
 
     // Whether the running job, and each that waits, may stand ahead of the next.
     fn in_order(&self, moment: &Moment) -> bool
-        requires { RowDated moment.now.tasks.now.table moment.now.jobs.now self.now.first.0 self.now.bytes self.now.n }
-        ensures { Decides result (InOrder moment.now.tasks.now.table moment.now.jobs.now self.now.first.0 self.now.bytes self.now.n) }
+        requires { RowDated moment.now.tasks.table moment.now.jobs self.now.first.0 self.now.bytes self.now.n }
+        ensures { Decides result (InOrder moment.now.tasks.table moment.now.jobs self.now.first.0 self.now.bytes self.now.n) }
     {
         let mut ahead = self.first;
         for i in 0..self.n {
@@ -121,8 +121,8 @@ impl Row {
 
 // "in order of deadline, earlier first, and of equal deadlines no later release time stands ahead of an earlier one"
 fn may_lead(moment: &Moment, a: TaskNo, b: TaskNo) -> bool
-    requires { Dated moment.now.tasks.now.table moment.now.jobs.now a.0 × Dated moment.now.tasks.now.table moment.now.jobs.now b.0 }
-    ensures { Decides result (MayLead (table_of moment.now.tasks.now.table) (released_in moment.now.tasks.now.table moment.now.jobs.now) a.0 b.0) }
+    requires { Dated moment.now.tasks.table moment.now.jobs a.0 × Dated moment.now.tasks.table moment.now.jobs b.0 }
+    ensures { Decides result (MayLead (table_of moment.now.tasks.table) (released_in moment.now.tasks.table moment.now.jobs) a.0 b.0) }
 {
     let x = moment.deadline(a);
     let y = moment.deadline(b);
@@ -136,11 +136,10 @@ fn may_lead(moment: &Moment, a: TaskNo, b: TaskNo) -> bool
 
 // Whether exactly the jobs that are marked are active.
 pub fn active_as(moment: &Moment, seen: &[bool; PLACES]) -> bool
-    requires { moment.now.tasks.now.table.count ≤ most }
-    ensures { Decides result (ActiveAs moment.now.tasks.now.table.count moment.now.jobs.now seen.now) }
+    requires { moment.now.tasks.table.count ≤ most }
+    ensures { Decides result (ActiveAs moment.now.tasks.table.count moment.now.jobs seen.now) }
 {
-    let jobs = moment.jobs;
-    let held = &jobs[1..moment.tasks.table.count + 1];
+    let held = &moment.jobs[1..moment.tasks.table.count + 1];
     for (i, job) in held.iter().enumerate() {
         if job.active != seen[i + 1] {
             return false;

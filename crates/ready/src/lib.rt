@@ -69,7 +69,7 @@ fn meet(lists: Lists, task: TaskNo, level: Level, other: TaskNo, held: Level) ->
 impl Ready {
     // "puts every waiting job in the list of its new level", its level at this time.
     pub fn relevel(self, moment: &Moment) -> Promoted<Ready>
-        requires { Promotable moment.now.tasks.now moment.now.jobs.now moment.now.time self.lists }
+        requires { Promotable moment.now.tasks moment.now.jobs moment.now.time self.lists }
         ensures { Relevels (levels_in moment.now) self result }
     {
         let Promoted { now: lists, moves } = promote(moment, self.lists);
@@ -83,7 +83,7 @@ impl Ready {
     // "If nothing runs, it runs. If its level is lower than the running job's level at this time, it runs and the former goes to the
     // front of the list of its level. Otherwise it goes to the end of the list of its own level."
     pub fn enter(self, moment: &Moment, task: TaskNo) -> Ready
-        requires { Enterable self moment.now.tasks.now moment.now.jobs.now moment.now.time task.0 }
+        requires { Enterable self moment.now.tasks moment.now.jobs moment.now.time task.0 }
         ensures { Becomes self (enter (levels_in moment.now) task.0) result }
     {
         match self.running {

@@ -35,7 +35,7 @@ impl<T: Copy> Copy for Promoted<T> {}
 
 // The level that the job of this task, which waits at this level, leaves it for; nothing where it stays.
 fn next_of(moment: &Moment, level: Level, task: TaskNo) -> Option<Level>
-    requires { Leaves moment.now.tasks.now moment.now.jobs.now moment.now.time level.0 task.0 }
+    requires { Leaves moment.now.tasks moment.now.jobs moment.now.time level.0 task.0 }
     ensures { result ≡ goes_to level.0 (levels_in moment.now task.0) }
 {
     let left = moment.time_left(task);
@@ -48,7 +48,7 @@ fn next_of(moment: &Moment, level: Level, task: TaskNo) -> Option<Level>
 
 // The same for the front job of the level's list, where there is one.
 fn front_next(moment: &Moment, lists: Lists, level: Level) -> Option<Level>
-    requires { Drainable moment.now.tasks.now moment.now.jobs.now moment.now.time lists level.0 }
+    requires { Drainable moment.now.tasks moment.now.jobs moment.now.time lists level.0 }
     ensures { (ls : ℕ → List ℕ) → Stores lists ls → result ≡ front_goes (levels_in moment.now) level.0 (ls level.0) }
 {
     match lists.front(level) {
@@ -59,7 +59,7 @@ fn front_next(moment: &Moment, lists: Lists, level: Level) -> Option<Level>
 
 // The front jobs of the level's list go to the ends of the lists of their new levels, up to the first that stays.
 fn drain(moment: &Moment, lists: Lists, level: Level) -> Promoted<Lists>
-    requires { Drainable moment.now.tasks.now moment.now.jobs.now moment.now.time lists level.0 }
+    requires { Drainable moment.now.tasks moment.now.jobs moment.now.time lists level.0 }
     ensures { (ls : ℕ → List ℕ) → Stores lists ls → DrainedTo (levels_in moment.now) level.0 ls result }
 {
     let mut now = lists;
@@ -80,7 +80,7 @@ fn drain(moment: &Moment, lists: Lists, level: Level) -> Promoted<Lists>
 
 // Every waiting job goes to the list of its new level.
 pub fn promote(moment: &Moment, lists: Lists) -> Promoted<Lists>
-    requires { Promotable moment.now.tasks.now moment.now.jobs.now moment.now.time lists }
+    requires { Promotable moment.now.tasks moment.now.jobs moment.now.time lists }
     ensures { (ls : ℕ → List ℕ) → Stores lists ls → PromotedTo (levels_in moment.now) ls result }
 {
     let mut now = lists;

@@ -29,7 +29,7 @@ use table::{PLACES, tests_to_3};
 
 // "A block is whole when": of its tasks, its jobs and its clock as a moment.
 pub fn is_whole(moment: &Moment, ready: Ready) -> bool
-    ensures { Decides result (Whole moment.now.tasks.now moment.now.jobs.now ready moment.now.time) }
+    ensures { Decides result (Whole moment.now.tasks moment.now.jobs ready moment.now.time) }
 {
     if !tasks_whole(moment) {
         return false;
@@ -48,9 +48,9 @@ pub fn is_whole(moment: &Moment, ready: Ready) -> bool
 
 // "its table passes tests 1 to 3; its rising copy of the deadlines agrees with the table"
 fn tasks_whole(moment: &Moment) -> bool
-    ensures { Decides result (TasksWhole moment.now.tasks.now) }
+    ensures { Decides result (TasksWhole moment.now.tasks) }
 {
-    let tasks = moment.tasks;
+    let tasks = &moment.tasks;
     match tests_to_3(tasks.table) {
         Ok(()) => agrees(tasks.table, tasks.rising),
         Err(_) => false,
@@ -59,11 +59,10 @@ fn tasks_whole(moment: &Moment) -> bool
 
 // "every active job has a release time, and no release time lies after the clock"
 fn jobs_whole(moment: &Moment) -> bool
-    requires { moment.now.tasks.now.table.count ≤ most }
-    ensures { Decides result (JobsWhole moment.now.tasks.now.table moment.now.jobs.now moment.now.time) }
+    requires { moment.now.tasks.table.count ≤ most }
+    ensures { Decides result (JobsWhole moment.now.tasks.table moment.now.jobs moment.now.time) }
 {
-    let jobs = moment.jobs;
-    let held = &jobs[1..moment.tasks.table.count + 1];
+    let held = &moment.jobs[1..moment.tasks.table.count + 1];
     for job in held {
         if !is_dated(*job, moment.time) {
             return false;
@@ -85,8 +84,8 @@ fn is_dated(job: Job, clock: u64) -> bool
 // Whether the block is whole, where the rest has been tested: exactly the active jobs run or wait, each once, where and in the order that
 // they should.
 fn queue_whole(moment: &Moment, ready: Ready) -> bool
-    requires { Tested moment.now.tasks.now moment.now.jobs.now ready moment.now.time }
-    ensures { Decides result (Whole moment.now.tasks.now moment.now.jobs.now ready moment.now.time) }
+    requires { Tested moment.now.tasks moment.now.jobs ready moment.now.time }
+    ensures { Decides result (Whole moment.now.tasks moment.now.jobs ready moment.now.time) }
 {
     let mut bytes = [0u8; LISTING_BYTES];
     let end = ready.lists.list_all(&mut bytes);

@@ -5,4 +5,4 @@ use Rattle.jobs.specs.Kept.{job_at}
 use Rattle.queue.proofs.active_as.Given as goal
 
 abbrev pub invariant-loop-i : goal.invariant-loop-i
-invariant-loop-i l = (j : ℕ) → j < l.i → (job_at l.fn.moment.jobs.now (suc j)).active ≡ seen_at l.fn.seen (suc j)
+invariant-loop-i l = (j : ℕ) → j < l.i → (job_at l.fn.moment.jobs (suc j)).active ≡ seen_at l.fn.seen (suc j)

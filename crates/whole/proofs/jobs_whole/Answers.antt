@@ -21,8 +21,8 @@ pub returns-then-not-is_dated : goal.returns-then-not-is_dated
 returns-then-not-is_dated c = λ w.
     let m = c.args.moment.now in
     let i = c.loop-job.job-index in
-    let here : i < m.tasks.now.table.count = search rules in
-    let e = behind (m.tasks.now.table.count + 1 - 1) m.jobs.now i (omega arith) in
+    let here : i < m.tasks.table.count = search rules in
+    let e = behind (m.tasks.table.count + 1 - 1) m.jobs i (omega arith) in
     true_false _ (whole_dated m.sized w (suc i) (omega arith) (omega arith))
     (subst (λ (j : Job). dated_by j.active (last_in j.last) m.time ≡ false) e (sym (c.if-not-is_dated.ensures)))
 
@@ -34,5 +34,5 @@ each P n h (suc i) low high = h i (omega arith)
 pub returns : goal.returns
 returns c =
     let m = c.args.moment.now in
-    let all : c.loop-job.job-index ≡ m.tasks.now.table.count = search rules in
-    dated_whole m.sized (each _ m.tasks.now.table.count (λ i h. c.loop-job.invariant i (omega arith)))
+    let all : c.loop-job.job-index ≡ m.tasks.table.count = search rules in
+    dated_whole m.sized (each _ m.tasks.table.count (λ i h. c.loop-job.invariant i (omega arith)))

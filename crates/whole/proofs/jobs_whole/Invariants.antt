@@ -7,4 +7,4 @@ use Rattle.whole.proofs.jobs_whole.Given as goal
 
 abbrev pub invariant-loop-job : goal.invariant-loop-job
 invariant-loop-job l =
-    (i : ℕ) → i < l.job-index → dated_by (job_at l.moment.jobs.now (suc i)).active (last_in (job_at l.moment.jobs.now (suc i)).last) l.moment.time ≡ true
+    (i : ℕ) → i < l.job-index → dated_by (job_at l.moment.jobs (suc i)).active (last_in (job_at l.moment.jobs (suc i)).last) l.moment.time ≡ true

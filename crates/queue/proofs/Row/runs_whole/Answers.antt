@@ -11,14 +11,14 @@ use Rattle.queue.proofs.Rows.{row_dated, row_low}
 use Rattle.queue.proofs.Row.runs_whole.Goals as goal
 use Rattle.queue.proofs.Row.runs_whole.Goals.{Else-not-all_wait, Else-not-in_order, Else-not-in_table}
 
-task : (c : Else-not-in_table) → is_task (table_of c.args.moment.now.tasks.now.table) c.args.self.now.first.0 ≡ true
-task c = let m = c.args.moment.now in sym (task_asked m.tasks.now.table m.sized c.args.self.now.first.0) ∙ sym c.if-not-in_table.ensures
+task : (c : Else-not-in_table) → is_task (table_of c.args.moment.now.tasks.table) c.args.self.now.first.0 ≡ true
+task c = let m = c.args.moment.now in sym (task_asked m.tasks.table m.sized c.args.self.now.first.0) ∙ sym c.if-not-in_table.ensures
 
-dated : (c : Else-not-all_wait) → let m = c.args.moment.now in let r = c.args.self.now in RowDated m.tasks.now.table m.jobs.now r.first.0 r.bytes r.n
+dated : (c : Else-not-all_wait) → let m = c.args.moment.now in let r = c.args.self.now in RowDated m.tasks.table m.jobs r.first.0 r.bytes r.n
 dated c = row_dated c.args.self.now.bytes c.requires (task (goal.at.in_order-requires c).Else-not-in_table) c.if-not-all_wait.ensures
 
 pub returns-then-not-in_table : goal.returns-then-not-in_table
-returns-then-not-in_table c = let m = c.args.moment.now in λ w. not_task m.tasks.now.table m.sized _ (sym c.if-not-in_table.ensures) w.task
+returns-then-not-in_table c = let m = c.args.moment.now in λ w. not_task m.tasks.table m.sized _ (sym c.if-not-in_table.ensures) w.task
 
 pub in_order-requires : goal.in_order-requires
 in_order-requires c = dated c

@@ -11,7 +11,7 @@ pub drain-moves-requires : goal.drain-moves-requires
 drain-moves-requires c = promoting_drains c.loop-from.invariant c.lowest_from.ensures _ c.in-Some.is
 
 turned : (c : After-drain-moves) → let m = c.args.moment.now in
-    Promoting m.tasks.now m.jobs.now m.time c.args.lists c.drain-moves.result.now
+    Promoting m.tasks m.jobs m.time c.args.lists c.drain-moves.result.now
     (c.loop-from.total + c.drain-moves.result.moves) (c.in-Some.level.0 + 1)
 turned c =
     promoting_turns c.loop-from.invariant c.lowest_from.ensures _ c.in-Some.is
