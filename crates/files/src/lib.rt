@@ -4,7 +4,8 @@
 
 ghost use Rattle.std.specs.Prelude.{◌≡◌, ◌⊎◌, take, length, IfOk, OnOk, IfErr, IfSome, IfNone};
 ghost use Rattle.std.specs.IoError.{error_kind, raw_os_error, os_error_kind};
-ghost use Rattle.std.specs.Io.KnownBytes.{Consumes, Appends};
+ghost use Rattle.std.specs.Io.{WritesAtMost};
+ghost use Rattle.std.specs.Io.KnownBytes.{Consumes, Appends, WriteAppends};
 ghost use Rattle.rules.specs.Runner.{output_of};
 ghost use Rattle.files.specs.declared.Failure.TheVariants.{Reading, Writing};
 ghost use Rattle.files.specs.Ends.{ReadInto, EndsAs, stream_front, OnUnread};
@@ -93,7 +94,13 @@ pub struct Watched<W> {
 impl<W: Write> Write for Watched<W> {
     ghost contents = { λ watched. W.contents watched.inner };
 
-    fn write(&mut self, bytes: &[u8]) -> io::Result<usize> {
+    // Beside what any writer promises: the error that is given is the one that is kept.
+    fn write(&mut self, bytes: &[u8]) -> io::Result<usize>
+        ensures bound { WritesAtMost result bytes.now }
+        ensures bytes { WriteAppends (W.contents self.old.inner) (W.contents self.new.inner) result bytes.now }
+        ensures kept { IfErr result (λ e. self.new.error ≡ raw_os_error e) }
+        ensures before { IfOk result (λ n. self.new.error ≡ self.old.error) }
+    {
         match self.inner.write(bytes) {
             Ok(n) => Ok(n),
             Err(e) => {
